@@ -1,4 +1,4 @@
-//! What the words ask of a command.
+//! The arguments of `plan`, and the faults of the arguments of all commands.
 ghost use Rattle.std.specs.Prelude.{◌≡◌, ◌≢◌, ◌⊎◌, ◌↔◌, map, None, Some, string_bytes, IfErr, IfOk};
 ghost use Rattle.std.specs.Prelude.{IsTrue};
 ghost use Rattle.clap.specs.Words.{found_of, rows_of};
@@ -21,7 +21,7 @@ use std::fmt;
 use std::io::Write;
 use thiserror::Error;
 
-/// Why words ask nothing of a command.
+/// Why the arguments of a command are refused.
 #[derive(Debug, Drop, Error)]
 pub enum WordsFault {
     /// `clap` finds a fault in them, or they ask for help.
@@ -65,7 +65,7 @@ impl From<AllocError> for WordsFault {
     }
 }
 
-/// What the words ask of `plan`. The first word is the program's own name.
+/// Parses the arguments of `plan`. The first argument is the program's own name.
 pub fn plan_asked(alloc: Global, words: &[String]) -> Result<Request, WordsFault>
     ensures asked { IfOk result (λ request.
         plan_asked (map string_bytes words.now) ≡ Some (ask_of request)) }
@@ -100,7 +100,7 @@ impl Flags for Given<'_, '_> {
     }
 }
 
-/// What the matches of `plan` ask.
+/// Reads the arguments of `plan`, which `change` has too, from the matches of the command.
 pub(crate) fn plan_in(alloc: Global, matches: &ArgMatches<'_>) -> Result<Request, WordsFault>
     ensures asked { IfOk result (λ request.
         ask_in (rows_of (found_of matches.now)) ≡ Some (ask_of request)) }
@@ -114,8 +114,8 @@ pub(crate) fn plan_in(alloc: Global, matches: &ArgMatches<'_>) -> Result<Request
     }
 }
 
-/// Whether the words ask for help. What `tell_words` writes then is what was asked for, and belongs
-/// on standard output.
+/// Returns true if the arguments ask for help. Then `tell_words` writes the help, which belongs on
+/// standard output.
 pub fn asks_help(fault: &WordsFault) -> bool
     ensures { IsTrue result ↔ AsksHelp fault.now }
 {
@@ -125,7 +125,7 @@ pub fn asks_help(fault: &WordsFault) -> bool
     }
 }
 
-/// Tells why the words ask nothing, and answers the status.
+/// Reports why the arguments are refused, and returns the exit status.
 pub fn tell_words<F: Write>(faults: &mut F, fault: &WordsFault) -> u8
     ensures statuses { (result ≡ 100) ⊎ (result ≡ 111) }
     ensures wrong { result ≡ 100 → fault.now ≢ Memory }
@@ -146,7 +146,7 @@ pub fn tell_words<F: Write>(faults: &mut F, fault: &WordsFault) -> u8
     }
 }
 
-// The words for each fault except one that `clap` finds.
+// Returns the message for each fault except one that `clap` finds.
 fn words_of(fault: &WordsFault) -> &'static str {
     match fault {
         WordsFault::Found(_) => "the command line is wrong",
@@ -179,8 +179,7 @@ impl fmt::Display for WordsFault {
     }
 }
 
-// Writes what `clap` has to say to the user, which ends in a newline. A writer that fails is
-// ignored.
+// Writes the message of `clap`, which ends in a newline. A writer that fails is ignored.
 fn write_usage<F: Write>(error: &ClapError, faults: &mut F) {
     let _ = write!(faults, "{error}");
 }

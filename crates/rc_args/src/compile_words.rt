@@ -1,4 +1,4 @@
-//! What the words ask of `compile`.
+//! The arguments of `compile`.
 ghost use Rattle.std.specs.Prelude.{IfOk};
 ghost use Rattle.clap.specs.Words.{found_of, rows_of};
 ghost use Rattle.rc_args.specs.CompileAsked.{AsksCompileIn, compile_ask_of};
@@ -8,18 +8,18 @@ use crate::texts::{text_in, words_in};
 use clap::ArgMatches;
 use std::alloc::{AllocError, Global};
 
-/// What the words ask of `compile`.
+/// The arguments of `compile`.
 #[derive(Drop)]
 pub struct CompileRequest<'a> {
     /// The source directories.
     pub sources: Vec<String>,
     /// The file that the database is put into, in place of standard output.
     pub output: Option<&'a str>,
-    /// Whether the files that were not looked at are told.
+    /// Whether the files that were not looked at are reported.
     pub tells: bool,
 }
 
-/// What the matches of `compile` ask.
+/// Reads the arguments of `compile` from its matches.
 pub(crate) fn compile_in<'a>(
     alloc: Global,
     matches: &ArgMatches<'a>,

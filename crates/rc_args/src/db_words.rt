@@ -1,4 +1,4 @@
-//! What the words ask of `db`.
+//! The arguments of `db`.
 ghost use Rattle.std.specs.Prelude.{◌≡◌, ◌≢◌, ◌↔◌, ◌∷◌, [], codes, if◌then◌else◌, map};
 ghost use Rattle.std.specs.Prelude.{string_bytes, IfErr, IfNone, IfOk, IfSome, IsTrue};
 ghost use Rattle.clap.specs.Words.{found_of, rows_of};
@@ -20,18 +20,18 @@ use rc_db::{NoMem, Which};
 use rc_graph::Way;
 use std::alloc::Global;
 
-/// What the words ask of `db`.
+/// The arguments of `db`.
 #[derive(Drop)]
 pub struct DbRequest<'a> {
     pub query: Query<'a>,
-    /// The way that is asked about, where the query has one.
+    /// The way of the query, where it has one.
     pub way: Way,
-    /// The file of a session, of which a picture shows what is up.
+    /// The file of the session whose live services a picture shows.
     pub live: Option<&'a str>,
 }
 
 impl<'a> DbRequest<'a> {
-    /// A query with none of the options.
+    /// Creates the request of a query without options.
     pub fn of(query: Query<'a>) -> DbRequest<'a>
         ensures { db_ask_of result ≡ ask_by [] (question_of query.entry) }
     {
@@ -43,7 +43,7 @@ impl<'a> DbRequest<'a> {
     }
 }
 
-/// What is asked of a database.
+/// A query of a database.
 #[derive(Drop)]
 pub enum Query<'a> {
     /// Whether it is one.
@@ -58,7 +58,7 @@ pub enum Query<'a> {
     OfNames(NamesQuery, Vec<String>),
 }
 
-/// What the words ask of `db`. The first word is the program's own name.
+/// Parses the arguments of `db`. The first argument is the program's own name.
 pub fn db_asked<'a>(alloc: Global, words: &'a [String]) -> Result<DbRequest<'a>, WordsFault>
     ensures asked { IfOk result (λ request.
         AsksDb (map string_bytes words.entry.now) (db_ask_of request)) }
@@ -81,7 +81,7 @@ pub fn db_asked<'a>(alloc: Global, words: &'a [String]) -> Result<DbRequest<'a>,
     }
 }
 
-/// What the matches of `db` ask.
+/// Reads the arguments of `db` from its matches.
 pub(crate) fn db_in<'a>(
     alloc: Global,
     matches: &ArgMatches<'a>,
@@ -100,7 +100,7 @@ pub(crate) fn db_in<'a>(
     }
 }
 
-// A query with the options of the matches.
+// Creates a request from a query and the options of the matches.
 fn request_in<'a>(query: Query<'a>, matches: &ArgMatches<'a>) -> DbRequest<'a>
     ensures { db_ask_of result ≡ ask_by (rows_of (found_of matches.now)) (question_of query.entry) }
 {
@@ -111,7 +111,8 @@ fn request_in<'a>(query: Query<'a>, matches: &ArgMatches<'a>) -> DbRequest<'a>
     }
 }
 
-// The request, unless it is to show a session, and asks for no picture.
+// Returns the request unchanged. Fails if it names a session to show, but its query is not the
+// picture.
 fn shown<'a>(request: DbRequest<'a>) -> Result<DbRequest<'a>, WordsFault>
     ensures asked { IfOk result (λ same. (same ≡ request.entry)
         × ShowsByPicture (db_ask_of request.entry)) }
@@ -123,21 +124,22 @@ fn shown<'a>(request: DbRequest<'a>) -> Result<DbRequest<'a>, WordsFault>
     Ok(request)
 }
 
-// Whether a query is that of a picture.
+// Returns true if a query is the one for a picture.
 fn is_picture(query: &Query<'_>) -> bool
     ensures { IsTrue result ↔ (question_of query.now ≡ Dot) }
 {
     matches!(query, Query::Dot)
 }
 
-// The way that is asked about.
+// Returns the way of a query: down if the flag for it is set, and up otherwise.
 fn way_of(down: bool) -> Way
     ensures { result ≡ (if down then Way.Lower else Way.Raise) }
 {
     if down { Way::Lower } else { Way::Raise }
 }
 
-// The question of a query's word and of the other words of the matches.
+// Parses a query from its word and the other words of the matches. Returns `None` if they form
+// none.
 fn query_in<'a>(
     alloc: Global,
     word: &str,
@@ -156,7 +158,7 @@ fn query_in<'a>(
     }
 }
 
-// The question of a query's word and of the words after it.
+// Parses a query from its word and the words after it. Returns `None` if they form none.
 fn query_of<'a>(alloc: Global, word: &str, words: &[&'a str]) -> Result<Option<Query<'a>>, NoMem>
     ensures some { IfOk result (λ found. IfSome found (λ query.
         word.now ∷ map (λ w. w.now) words.now ≡ words_of_query (question_of query))) }
@@ -170,7 +172,8 @@ fn query_of<'a>(alloc: Global, word: &str, words: &[&'a str]) -> Result<Option<Q
     }
 }
 
-// The same, where the query is not of any number of names.
+// Parses a query that is not of any number of names from its word and the words after it. Returns
+// `None` if they form none.
 fn small_query<'a>(word: &str, words: &[&'a str]) -> Option<Query<'a>>
     requires { (query : OfMany) → word.now ≡ names_word query → ⊥ }
     ensures some { IfSome result (λ query.
@@ -193,7 +196,7 @@ fn small_query<'a>(word: &str, words: &[&'a str]) -> Option<Query<'a>>
     }
 }
 
-// The question of a query's word and of the one word after it.
+// Parses a query from its word and the one word after it. Returns `None` if they form none.
 fn query_of_one<'a>(word: &str, name: &'a str) -> Option<Query<'a>>
     requires { (query : OfMany) → word.now ≡ names_word query → ⊥ }
     ensures some { IfSome result (λ query.
@@ -210,7 +213,7 @@ fn query_of_one<'a>(word: &str, name: &'a str) -> Option<Query<'a>>
     }
 }
 
-// The list of a word.
+// Returns the query that lists the sort of a word, or `None` if the word names no sort.
 fn list_of<'a>(word: &str) -> Option<Query<'a>>
     ensures some { IfSome result (λ query.
         codes "list" ∷ word.now ∷ [] ≡ words_of_query (question_of query)) }
@@ -222,7 +225,7 @@ fn list_of<'a>(word: &str) -> Option<Query<'a>>
     }
 }
 
-// The sort of a list.
+// Returns the sort of a list that a word names, or `None` if it names none.
 fn which_of(word: &str) -> Option<Which>
     ensures some { IfSome result (λ which. word.now ≡ list_word which) }
     ensures none { IfNone result ((which : Sort) → word.now ≡ list_word which → ⊥) }

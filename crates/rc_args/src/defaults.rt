@@ -1,4 +1,4 @@
-//! What a command is given where its words name nothing.
+//! The files and programs that a command uses where its arguments name none.
 ghost use Rattle.std.specs.Prelude.{◌≡◌, option_map};
 ghost use Rattle.rc_args.specs.Defaults.{first_named};
 
@@ -11,7 +11,7 @@ pub struct Defaults<'a> {
     pub controller: Option<&'a str>,
 }
 
-/// What is named, or where nothing is the default.
+/// Returns the named value, or the default if none is named.
 pub(crate) fn named_or<'a>(named: Option<&'a str>, default: Option<&'a str>) -> Option<&'a str>
     ensures { option_map (λ text. text.now) result
         ≡ first_named (option_map (λ text. text.now) named.entry)

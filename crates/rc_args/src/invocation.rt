@@ -25,7 +25,7 @@ use clap::ArgMatches;
 use rc_select::Request;
 use std::alloc::Global;
 
-/// What a command line asks for.
+/// The request of a command line.
 #[derive(Drop)]
 pub enum Invocation<'a> {
     /// The database that these source directories define.
@@ -34,19 +34,19 @@ pub enum Invocation<'a> {
     Db(DbRequest<'a>, Option<&'a str>),
     /// The plan of a change.
     Plan(Request, Option<&'a str>),
-    /// What a script comes to.
+    /// The outcome of a script.
     Replay(Option<&'a str>),
     /// A command on the file of a session, and the file of its database.
     Session(SessionCommand<'a>, Option<&'a str>),
-    /// That the command which goes on with the session of this file is called off.
+    /// Calls off the command that goes on with the session of this file.
     Stop(Option<&'a str>),
-    /// Which version this is.
+    /// The version of the program.
     Version,
 }
 
-/// What a command line asks for, by these defaults. Each file that its command needs is named; a
-/// line of which that is not so is refused, as one that asks for nothing. The first word is the
-/// program's own name.
+/// Parses argv into an invocation, with the given defaults for the files and programs that it does
+/// not name. Fails if argv is wrong, or if neither names a file that the command needs. The first
+/// argument is the program's own name.
 pub fn invocation_of<'a>(
     alloc: Global,
     words: &'a [String],
@@ -63,7 +63,7 @@ pub fn invocation_of<'a>(
     }
 }
 
-// What the words ask for. The first word is the program's own name.
+// Parses argv into an invocation. The first argument is the program's own name.
 fn said_by<'a>(alloc: Global, words: &'a [String]) -> Result<Invocation<'a>, WordsFault>
     ensures asked { IfOk result (λ invocation.
         Invokes (map string_bytes words.entry.now) (invocation_ask_of invocation)) }
@@ -80,7 +80,7 @@ fn said_by<'a>(alloc: Global, words: &'a [String]) -> Result<Invocation<'a>, Wor
     }
 }
 
-// What the matches ask for.
+// Creates the invocation of the command that was entered from its matches.
 fn invocation_in<'a>(alloc: Global, matches: &ArgMatches<'a>) -> Result<Invocation<'a>, WordsFault>
     ensures asked { IfOk result (λ invocation.
         InvokesEntered (subcommand_rows_of matches.now) (invocation_ask_of invocation)) }
@@ -93,7 +93,7 @@ fn invocation_in<'a>(alloc: Global, matches: &ArgMatches<'a>) -> Result<Invocati
     }
 }
 
-// What the matches of the command of this name ask for.
+// Creates the invocation of the command with the given name from its matches.
 fn invocation_named<'a>(
     alloc: Global,
     name: &str,
@@ -123,7 +123,8 @@ fn invocation_named<'a>(
 }
 
 impl<'a> Invocation<'a> {
-    // The same, by these defaults. One that needs a file is refused where there is none.
+    // Returns this invocation with the given defaults for what it does not name. Fails if it lacks
+    // a file that it needs.
     fn with_defaults(self, defaults: Defaults<'a>) -> Result<Invocation<'a>, WordsFault>
         ensures asked { IfOk result (λ invocation. invocation_ask_of invocation
             ≡ invocation_by (defaults_ask_of defaults.entry) (invocation_ask_of self.entry)) }
@@ -143,7 +144,7 @@ impl<'a> Invocation<'a> {
         Ok(invocation)
     }
 
-    // The same, by these defaults.
+    // Returns this invocation with the given defaults for what it does not name.
     fn joined(self, defaults: Defaults<'a>) -> Invocation<'a>
         ensures { invocation_ask_of result
             ≡ invocation_by (defaults_ask_of defaults.entry) (invocation_ask_of self.entry) }
@@ -163,7 +164,7 @@ impl<'a> Invocation<'a> {
         }
     }
 
-    // Whether a file that it needs is not named.
+    // Returns true if a file that the invocation needs is not named.
     fn lacks_its_file(&self) -> bool
         ensures { IsTrue result ↔ LacksItsFile (invocation_ask_of self.now) }
     {
@@ -174,7 +175,7 @@ impl<'a> Invocation<'a> {
         }
     }
 
-    // Which files it wants.
+    // Returns the fault that says which files the invocation wants.
     fn wanted_files(&self) -> WordsFault
         ensures { result ≡ wanted_files (invocation_ask_of self.now) }
     {

@@ -2,7 +2,8 @@
 ghost use Rattle.std.specs.Prelude.{ℕ, option_map, IfNone, IfSome};
 ghost use Rattle.rc_args.specs.Limits.{IsLimitIn, IsRunLimitIn, SpellsLimit};
 
-/// The limit of a run that is given, if it is one; where none is given, the greatest that there is.
+/// Parses the limit of a run. Returns the greatest limit if none is given, and `None` if the text
+/// is no limit.
 pub(crate) fn run_limit_of(given: Option<&str>) -> Option<u32>
     ensures some { IfSome result (λ limit.
         IsRunLimitIn (option_map (λ text. text.now) given.entry) limit) }
@@ -15,7 +16,8 @@ pub(crate) fn run_limit_of(given: Option<&str>) -> Option<u32>
     }
 }
 
-/// The limit that is given, if it is one; 0, which is none, where none is given.
+/// Parses a limit. Returns 0, which means no limit, if none is given, and `None` if the text is no
+/// limit.
 pub(crate) fn limit_of(given: Option<&str>) -> Option<u32>
     ensures some { IfSome result (λ limit.
         IsLimitIn (option_map (λ text. text.now) given.entry) limit) }
@@ -28,7 +30,7 @@ pub(crate) fn limit_of(given: Option<&str>) -> Option<u32>
     }
 }
 
-// The number of milliseconds that a text spells.
+// Returns the number of milliseconds that a text spells, or `None` if it spells none.
 fn millis_of(text: &str) -> Option<u32>
     ensures some { IfSome result (λ limit. SpellsLimit text.now limit) }
     ensures none { IfNone result ((limit : ℕ) → SpellsLimit text.now limit → ⊥) }

@@ -1,4 +1,4 @@
-//! The matches of the words, and in them those of one command.
+//! The matches of the command line, and those of one command.
 ghost use Rattle.std.specs.Prelude.{◌≡◌, ◌≢◌, None, map, option_map, string_bytes, IfErr, IfOk};
 ghost use Rattle.clap.specs.Words.{Text, found_of, rows_of, subcommand_rows_of};
 ghost use Rattle.rc_args.specs.Words.{rows_for, rows_named};
@@ -10,7 +10,7 @@ use crate::shown::shown_fault;
 use clap::ArgMatches;
 use std::alloc::Global;
 
-/// What `clap` makes of the words. The first word is the program's own name.
+/// Parses argv with `clap`. The first argument is the program's own name.
 pub(crate) fn matches_in<'a>(
     alloc: Global,
     words: &'a [String],
@@ -32,7 +32,7 @@ pub(crate) fn matches_in<'a>(
     }
 }
 
-/// The matches of the command of this name, where it is the one that was entered.
+/// Returns the matches of the command with the given name, or `None` if it was not entered.
 pub(crate) fn command_in<'m, 'a>(
     matches: &'m ArgMatches<'a>,
     name: &str,

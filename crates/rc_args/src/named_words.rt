@@ -1,4 +1,4 @@
-//! What the words ask of a session about services and bundles that they name.
+//! The arguments of the commands on a session that name services and bundles.
 ghost use Rattle.std.specs.Prelude.{◌≡◌, ◌≢◌, IfErr, IfOk};
 ghost use Rattle.clap.specs.Words.{found_of, rows_of};
 ghost use Rattle.rc_args.specs.NamedAsked.{AsksNamesIn, NamedAsk, named_ask_of};
@@ -14,17 +14,18 @@ use crate::texts::words_in;
 use clap::ArgMatches;
 use std::alloc::Global;
 
-/// What the words ask of `restart` or `status`.
+/// The arguments of `restart` or `status`.
 #[derive(Drop)]
 pub struct NamedRequest<'a> {
-    /// What is asked of the session.
+    /// The options of the session.
     pub session: SessionRequest<'a>,
     /// The names of services and bundles.
     pub names: Vec<String>,
 }
 
 impl<'a> NamedRequest<'a> {
-    /// The same, with these where the words name nothing.
+    /// Returns this request with the given defaults for the files and programs that it does not
+    /// name.
     pub fn with_defaults(self, defaults: Defaults<'a>) -> NamedRequest<'a>
         ensures { named_ask_of result ≡ record (named_ask_of self.entry) {
           session = session_by (defaults_ask_of defaults.entry) (named_ask_of self.entry).session;
@@ -38,7 +39,7 @@ impl<'a> NamedRequest<'a> {
     }
 }
 
-/// What the matches of `restart` or `status` ask.
+/// Reads the arguments of `restart` or `status` from its matches.
 pub(crate) fn named_in<'a>(
     alloc: Global,
     matches: &ArgMatches<'a>,

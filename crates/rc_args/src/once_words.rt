@@ -1,4 +1,4 @@
-//! What the words ask of a session of one line.
+//! The arguments of a session of one line.
 ghost use Rattle.std.specs.Prelude.{◌≡◌, ◌≢◌, ◌↔◌, codes, map, All, IfErr, IfOk};
 ghost use Rattle.std.specs.Prelude.{IsTrue};
 ghost use Rattle.clap.specs.Words.{found_of, rows_of};
@@ -34,17 +34,18 @@ pub enum Once {
     DryRedo,
 }
 
-/// What the words ask of a session of one line.
+/// The arguments of a session of one line.
 #[derive(Drop)]
 pub struct OnceRequest<'a> {
     /// What it is to do.
     pub once: Once,
-    /// What is asked of the session.
+    /// The options of the session.
     pub session: SessionRequest<'a>,
 }
 
 impl<'a> OnceRequest<'a> {
-    /// The same, with these where the words name nothing.
+    /// Returns this request with the given defaults for the files and programs that it does not
+    /// name.
     pub fn with_defaults(self, defaults: Defaults<'a>) -> OnceRequest<'a>
         ensures { once_ask_of result ≡ record (once_ask_of self.entry) {
           session = session_by (defaults_ask_of defaults.entry) (once_ask_of self.entry).session;
@@ -57,7 +58,8 @@ impl<'a> OnceRequest<'a> {
         }
     }
 
-    /// Whether it needs a file and has none: what it starts would be known to nobody.
+    /// Returns true if the request needs the file of a session and names none. Without it, nobody
+    /// would know what the request starts.
     pub fn lacks_file(&self) -> bool
         ensures { IsTrue result ↔ LacksFile (once_ask_of self.now) }
     {
@@ -66,7 +68,7 @@ impl<'a> OnceRequest<'a> {
 }
 
 impl Once {
-    /// Whether it shows what would move.
+    /// Returns true if the session only shows what would move.
     fn is_shown(&self) -> bool
         ensures { IsTrue result ↔ IsShown (once_saying_of self.now) }
     {
@@ -77,7 +79,8 @@ impl Once {
     }
 }
 
-/// What the matches of the command of this name ask of a session of one line.
+/// Reads the arguments of the command with the given name, which is a session of one line, from its
+/// matches.
 pub(crate) fn once_in<'a>(
     alloc: Global,
     name: &str,
@@ -98,7 +101,7 @@ pub(crate) fn once_in<'a>(
     Ok(OnceRequest { once, session })
 }
 
-/// Whether the words have no newline.
+/// Returns true if the positional arguments have no newline.
 pub(crate) fn are_one_line(matches: &ArgMatches<'_>) -> bool
     ensures { IsTrue result ↔ AreOneLine (words_rows (rows_of (found_of matches.now))) }
 {
@@ -108,14 +111,14 @@ pub(crate) fn are_one_line(matches: &ArgMatches<'_>) -> bool
     }
 }
 
-// Whether these have no newline.
+// Returns true if the given words have no newline.
 fn are_all_one_line(words: &[&str]) -> bool
     ensures { IsTrue result ↔ All (λ (word : _). IsOneLine word.now) words.now }
 {
     words.iter().all(|word| is_one_line(word))
 }
 
-// Whether a word has no newline.
+// Returns true if a word has no newline.
 #[tactic(auto, unfolding(crate::specs::OnceAsked::IsOneLine))]
 fn is_one_line(word: &str) -> bool
     ensures { IsTrue result ↔ IsOneLine word.now }
@@ -123,7 +126,7 @@ fn is_one_line(word: &str) -> bool
     !word.as_bytes().contains(&b'\n')
 }
 
-// What the matches of the command of this name ask to be done.
+// Returns what the command with the given name is to do, according to its matches.
 fn what_in(alloc: Global, name: &str, matches: &ArgMatches<'_>) -> Result<Once, WordsFault>
     ensures asked { IfOk result (λ once.
         AsksWhat name.now (rows_of (found_of matches.now)) (once_saying_of once)) }
@@ -143,7 +146,7 @@ fn what_in(alloc: Global, name: &str, matches: &ArgMatches<'_>) -> Result<Once, 
     }
 }
 
-// What the matches of `change` ask to be done.
+// Returns what `change` is to do, according to its matches.
 fn change_in(alloc: Global, matches: &ArgMatches<'_>) -> Result<Once, WordsFault>
     ensures asked { IfOk result (λ once.
         AsksWhat (codes "change") (rows_of (found_of matches.now)) (once_saying_of once)) }
@@ -161,7 +164,7 @@ fn change_in(alloc: Global, matches: &ArgMatches<'_>) -> Result<Once, WordsFault
     Ok(Once::Line(SessionLine::Command(Command::Change(request))))
 }
 
-// What the matches of `undo` ask to be done.
+// Returns what `undo` is to do, according to its matches.
 fn undo_in(alloc: Global, matches: &ArgMatches<'_>) -> Result<Once, WordsFault>
     ensures asked { IfOk result (λ once.
         AsksWhat (codes "undo") (rows_of (found_of matches.now)) (once_saying_of once)) }
@@ -177,7 +180,7 @@ fn undo_in(alloc: Global, matches: &ArgMatches<'_>) -> Result<Once, WordsFault>
     Ok(Once::Line(SessionLine::Command(Command::Undo(limit))))
 }
 
-// What the matches of `redo` ask to be done.
+// Returns what `redo` is to do, according to its matches.
 fn redo_in(alloc: Global, matches: &ArgMatches<'_>) -> Result<Once, WordsFault>
     ensures asked { IfOk result (λ once.
         AsksWhat (codes "redo") (rows_of (found_of matches.now)) (once_saying_of once)) }
@@ -193,7 +196,7 @@ fn redo_in(alloc: Global, matches: &ArgMatches<'_>) -> Result<Once, WordsFault>
     Ok(Once::Line(SessionLine::Command(Command::Redo(limit))))
 }
 
-// What the matches of `add` ask to be done.
+// Returns what `add` is to do, according to its matches.
 fn add_in(alloc: Global, matches: &ArgMatches<'_>) -> Result<Once, WordsFault>
     ensures asked { IfOk result (λ once.
         AsksWhat (codes "add") (rows_of (found_of matches.now)) (once_saying_of once)) }
@@ -207,7 +210,8 @@ fn add_in(alloc: Global, matches: &ArgMatches<'_>) -> Result<Once, WordsFault>
     }
 }
 
-// A bundle of the first word, which holds what the others name.
+// Creates the command that adds a bundle. The first word is its name, and the others name what it
+// holds.
 fn bundle_of(alloc: Global, words: &[&str], force: bool) -> Result<Once, WordsFault>
     ensures asked { IfOk result (λ once.
         Adds (map (λ word. word.now) words.now) force (once_saying_of once)) }
@@ -226,7 +230,7 @@ fn bundle_of(alloc: Global, words: &[&str], force: bool) -> Result<Once, WordsFa
     Ok(Once::Line(SessionLine::Command(Command::Add(name, contents, force))))
 }
 
-// What the matches of `delete` ask to be done.
+// Returns what `delete` is to do, according to its matches.
 fn delete_in(alloc: Global, matches: &ArgMatches<'_>) -> Result<Once, WordsFault>
     ensures asked { IfOk result (λ once.
         AsksWhat (codes "delete") (rows_of (found_of matches.now)) (once_saying_of once)) }

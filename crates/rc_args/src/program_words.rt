@@ -1,4 +1,4 @@
-//! How the words of `session` ask that transitions are made.
+//! How the options of a command say that transitions are made.
 ghost use Rattle.std.specs.Prelude.{◌≡◌, ◌≢◌, Option, Some, map, option_map, string_bytes, IfErr};
 ghost use Rattle.std.specs.Prelude.{IfOk};
 ghost use Rattle.clap.specs.Words.{Text, found_of, rows_of};
@@ -31,7 +31,7 @@ pub struct Programs<'a> {
 }
 
 impl Programs<'_> {
-    /// The words of the runner: those of `/bin/sh -c` where none is named.
+    /// Returns the words of the runner, which are those of `/bin/sh -c` if none is named.
     pub fn runner_words(&self, alloc: Global) -> Result<Vec<String>, AllocError>
         ensures { IfOk result (λ words. map string_bytes words.items
             ≡ runner_in (option_map (λ text. text.now) self.now.runner)) }
@@ -39,7 +39,7 @@ impl Programs<'_> {
         spaced(alloc, self.runner.unwrap_or(USUAL_RUNNER))
     }
 
-    /// The words of the controller: none where none is named.
+    /// Returns the words of the controller, or no words if none is named.
     pub fn controller_words(&self, alloc: Global) -> Result<Vec<String>, AllocError>
         ensures { IfOk result (λ words. map string_bytes words.items
             ≡ controller_in (option_map (λ text. text.now) self.now.controller)) }
@@ -51,13 +51,13 @@ impl Programs<'_> {
 /// How the transitions of a session are made.
 #[derive(Drop)]
 pub enum Making<'a> {
-    /// By none: nothing is started, and these fail.
+    /// No program is started, and these transitions fail.
     Table(Vec<Transition<'a>>),
     /// By programs that are started.
     Programs(Programs<'a>),
 }
 
-/// How the matches of `session` ask that transitions are made.
+/// Reads how transitions are made from the matches of a command on a session.
 pub(crate) fn making_in<'a>(
     alloc: Global,
     matches: &ArgMatches<'a>,
@@ -80,7 +80,7 @@ pub(crate) fn making_in<'a>(
     }
 }
 
-// The table of a list of transitions, whatever programs are named.
+// Parses a list of transitions into a table. Programs and a limit that are named have no effect.
 fn table_in<'a>(alloc: Global, list: &'a str) -> Result<Making<'a>, WordsFault>
     ensures asked { IfOk result (λ making. (runner controller limit : Option Text) →
         MakesBy (Some list.entry.now) runner controller limit (making_ask_of making)) }
@@ -95,7 +95,7 @@ fn table_in<'a>(alloc: Global, list: &'a str) -> Result<Making<'a>, WordsFault>
     }
 }
 
-// The words of a text: what stands between its spaces and tabs.
+// Splits a text into its words, at spaces and tabs.
 fn spaced(alloc: Global, text: &str) -> Result<Vec<String>, AllocError>
     ensures { IfOk result (λ words. map string_bytes words.items ≡ spaced text.now) }
 {

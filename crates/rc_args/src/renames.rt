@@ -15,14 +15,14 @@ use std::alloc::{AllocError, Global};
 /// Why the conversions of an update are refused.
 #[derive(Clone, Copy, Drop)]
 pub enum RenameFault<'a> {
-    /// The line of this number, from 1, says none.
+    /// The line of this number, counted from 1, states no conversion.
     BadLine(usize),
     /// Two of them have this old name, or this new name.
     Twice(&'a [u8]),
     Memory,
 }
 
-/// The conversions of a text, behind those of the words.
+/// Returns the conversions of the arguments, followed by those of a text.
 pub fn renames_in<'a>(
     alloc: Global,
     restarts: &[Conversion<'a>],
@@ -52,7 +52,7 @@ pub fn renames_in<'a>(
     }
 }
 
-// The lines of a text.
+// Splits a text into its lines.
 fn lines_of<'a>(alloc: Global, text: &'a [u8]) -> Result<Vec<&'a [u8]>, AllocError>
     ensures { IfOk result (λ lines. map (λ line. line.now) lines.items
         ≡ slice_split (λ byte. byte == 10) text.entry.now) }
@@ -60,7 +60,7 @@ fn lines_of<'a>(alloc: Global, text: &'a [u8]) -> Result<Vec<&'a [u8]>, AllocErr
     text.split(|byte| *byte == b'\n').collect(alloc)
 }
 
-// The conversions of lines, behind those of the words.
+// Returns the conversions of the arguments, followed by those of the lines.
 fn said_by<'a>(
     alloc: Global,
     restarts: &[Conversion<'a>],
@@ -89,7 +89,7 @@ fn said_by<'a>(
     Ok(list)
 }
 
-// Appends what a line says.
+// Appends the conversion of a line, if it states one.
 fn add_said<'a>(
     list: &mut Vec<Conversion<'a>>,
     said: Option<Conversion<'a>>,
@@ -103,7 +103,8 @@ fn add_said<'a>(
     Ok(())
 }
 
-// What a line says: nothing, or a conversion. None: neither.
+// Parses a line. Returns `Some(None)` for a line that states nothing, a conversion for a line that
+// states one, and `None` for any other line.
 fn said_in<'a>(alloc: Global, line: &'a [u8]) -> Result<Option<Option<Conversion<'a>>>, AllocError>
     ensures { IfOk result (λ said. option_map (λ one. option_map conversion_of one) said
         ≡ line_says (words_in line.entry.now)) }
@@ -112,7 +113,8 @@ fn said_in<'a>(alloc: Global, line: &'a [u8]) -> Result<Option<Option<Conversion
     Ok(said_as(&words))
 }
 
-// What the words of a line say.
+// Parses the words of a line. Returns `Some(None)` for words that state nothing, a conversion for
+// words that state one, and `None` for any other words.
 fn said_as<'a>(words: &[&'a [u8]]) -> Option<Option<Conversion<'a>>>
     ensures { option_map (λ one. option_map conversion_of one) result
         ≡ line_says (map (λ word. word.now) words.now) }
@@ -126,7 +128,7 @@ fn said_as<'a>(words: &[&'a [u8]]) -> Option<Option<Conversion<'a>>>
     }
 }
 
-// Whether words are those of an empty line or a comment.
+// Returns true if the words are those of an empty line or a comment.
 fn is_silent(words: &[&[u8]]) -> bool
     ensures { result ≡ is_silent (map (λ word. word.now) words.now) }
 {
@@ -136,7 +138,7 @@ fn is_silent(words: &[&[u8]]) -> bool
     }
 }
 
-// The conversion that words say.
+// Returns the conversion that the words state, or `None` if they state none.
 fn conversion_by<'a>(words: &[&'a [u8]]) -> Option<Conversion<'a>>
     ensures { option_map conversion_of result
         ≡ conversion_by (map (λ word. word.now) words.now) }
@@ -151,7 +153,7 @@ fn conversion_by<'a>(words: &[&'a [u8]]) -> Option<Conversion<'a>>
     }
 }
 
-// This conversion, where it is said.
+// Returns the conversion with the given fields if `is_said`, and `None` otherwise.
 fn said_with<'a>(
     is_said: bool,
     old: &'a [u8],
@@ -169,7 +171,7 @@ fn said_with<'a>(
     }
 }
 
-// Whether a word is this text.
+// Returns true if a word is the given text.
 fn is(word: &[u8], text: &[u8]) -> bool
     ensures { result ≡ bytes_eq word.now text.now }
 {

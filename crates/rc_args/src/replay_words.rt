@@ -1,4 +1,4 @@
-//! What the words ask of `replay`.
+//! The arguments of `replay`.
 ghost use Rattle.std.specs.Prelude.{◌≡◌, ◌≢◌, codes, map, None, string_bytes, IfErr, OnOk};
 ghost use Rattle.rc_args.specs.ReplayAsked.{AsksReplay};
 ghost use Rattle.rc_args.specs.Words.{rows_for};
@@ -8,7 +8,8 @@ use crate::asked::WordsFault;
 use crate::matched::{command_in, matches_in};
 use std::alloc::Global;
 
-/// Whether the words are those of `replay`. The first word is the program's own name.
+/// Checks whether the arguments are those of `replay`. The first argument is the program's own
+/// name.
 pub fn replay_asked(alloc: Global, words: &[String]) -> Result<(), WordsFault>
     ensures asked { OnOk result (AsksReplay (map string_bytes words.now)) }
     ensures wrong { IfErr result (λ fault.

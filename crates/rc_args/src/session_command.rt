@@ -1,4 +1,4 @@
-//! What a command line asks of the file of a session.
+//! The commands on the file of a session.
 ghost use Rattle.std.specs.Prelude.{◌≡◌, ◌↔◌, IsTrue, Option, option_map};
 ghost use Rattle.clap.specs.Words.{Text};
 ghost use Rattle.rc_args.specs.Defaults.{defaults_ask_of, first_named};
@@ -25,12 +25,12 @@ pub enum SessionCommand<'a> {
     Restart(NamedRequest<'a>),
     /// The history around the current state is forgotten.
     Seal(SessionRequest<'a>),
-    /// It is shown where services stand.
+    /// The state of services is shown.
     Status(NamedRequest<'a>),
 }
 
 impl<'a> SessionCommand<'a> {
-    /// What is asked of the session.
+    /// Returns the options of the session.
     pub fn session(&self) -> &SessionRequest<'a>
         ensures { result.now ≡ command_session self.now }
     {
@@ -42,7 +42,8 @@ impl<'a> SessionCommand<'a> {
         }
     }
 
-    /// The same, with these where the words name nothing.
+    /// Returns this command with the given defaults for the files and programs that it does not
+    /// name.
     pub(crate) fn with_defaults(self, defaults: Defaults<'a>) -> SessionCommand<'a>
         ensures { (file : Option Text) → on_session result (first_named file
             (defaults_ask_of defaults.entry).base)
@@ -66,7 +67,7 @@ impl<'a> SessionCommand<'a> {
         }
     }
 
-    /// Whether the file of its database, or that of the session, is needed and not named.
+    /// Returns true if the file of the database, or that of the session, is needed and not named.
     pub(crate) fn lacks_its_file(&self, base: Option<&str>) -> bool
         ensures { IsTrue result ↔ LacksItsFile (on_session self.now
             (option_map (λ f. f.now) base.entry)) }
@@ -82,7 +83,7 @@ impl<'a> SessionCommand<'a> {
         }
     }
 
-    /// Which files it wants.
+    /// Returns the fault that says which files the command wants.
     pub(crate) fn wanted_files(&self) -> WordsFault
         ensures { (file : Option Text) → result ≡ wanted_files (on_session self.now file) }
     {
@@ -94,7 +95,7 @@ impl<'a> SessionCommand<'a> {
     }
 }
 
-// Whether one of two files is not named.
+// Returns true if at least one of two files is not named.
 fn lacks_one(base: Option<&str>, live: Option<&str>) -> bool
     ensures { IsTrue result ↔ LacksOne (option_map (λ f. f.now) base.entry)
         (option_map (λ f. f.now) live.entry) }

@@ -1,11 +1,11 @@
-//! What is asked of a session.
+//! The options of a session.
 ghost use Rattle.std.specs.Prelude.{◌≤◌};
 
 use crate::defaults::{Defaults, named_or};
 use crate::program_words::{Making, Programs};
 use crate::verbosity::Verbosity;
 
-/// What the words ask of `session`.
+/// The options of a command on a session.
 #[derive(Drop)]
 pub struct SessionRequest<'a> {
     /// How many transitions are made at once.
@@ -29,8 +29,8 @@ impl<'a> SessionRequest<'a> {
     ghost use Rattle.rc_args.specs.SessionAsked.{Starts, session_ask_of};
     ghost use Rattle.rc_args.specs.Defaults.{session_by, defaults_ask_of};
 
-    /// The same, with these where the words name nothing. Where nothing is started the default file
-    /// is left alone.
+    /// Returns this request with the given defaults for the files and programs that it does not
+    /// name. If nothing is started, the default file is left alone.
     pub fn with_defaults(mut self, defaults: Defaults<'a>) -> SessionRequest<'a>
         ensures { session_ask_of result
             ≡ session_by (defaults_ask_of defaults.entry) (session_ask_of self.entry) }
@@ -49,7 +49,7 @@ impl<'a> SessionRequest<'a> {
         }
     }
 
-    /// Whether it starts programs.
+    /// Returns true if the session starts programs.
     pub fn starts(&self) -> bool
         ensures { IsTrue result ↔ Starts (session_ask_of self.now) }
     {

@@ -1,4 +1,4 @@
-//! What the words ask of a session.
+//! The options of a session, read from the matches of a command.
 ghost use Rattle.std.specs.Prelude.{◌≢◌, ◌≤◌, ℕ, option_map, IfErr, IfNone, IfOk, IfSome};
 ghost use Rattle.clap.specs.Words.{found_of, rows_of};
 ghost use Rattle.rc_args.specs.SessionAsked.{AsksLinesIn, AsksOptionsIn, AsksSessionIn, IsBoundIn};
@@ -22,10 +22,10 @@ const USUAL_WORKERS: u8 = 4;
 /// The most workers of a session.
 const MAX_WORKERS: u8 = 64;
 
-/// The least number that a session may have as the most of its states.
+/// The least bound on the number of states of a session.
 const LEAST_BOUND: u32 = 3;
 
-/// What the matches of `session` ask.
+/// Reads the options of `session` from its matches.
 pub(crate) fn lines_in<'a>(
     alloc: Global,
     matches: &ArgMatches<'a>,
@@ -38,7 +38,7 @@ pub(crate) fn lines_in<'a>(
     options_in(alloc, matches, lines_verbosity(matches))
 }
 
-/// What the matches of another command ask of its session.
+/// Reads the options of the session of any other command from its matches.
 pub(crate) fn session_in<'a>(
     alloc: Global,
     matches: &ArgMatches<'a>,
@@ -51,7 +51,7 @@ pub(crate) fn session_in<'a>(
     options_in(alloc, matches, command_verbosity(matches))
 }
 
-// The options of a session that reports these transitions.
+// Reads the options of a session that reports the given transitions from the matches of a command.
 fn options_in<'a>(
     alloc: Global,
     matches: &ArgMatches<'a>,
@@ -81,7 +81,8 @@ fn options_in<'a>(
     }
 }
 
-// The number of workers that is given, if it is one.
+// Returns the given number of workers, or the default if none is given. Returns `None` if the text
+// spells no number of workers.
 fn workers_of(given: Option<&str>) -> Option<u8>
     ensures some { IfSome result (λ workers.
         IsCrewIn (option_map (λ text. text.now) given.entry) workers) }
@@ -95,7 +96,7 @@ fn workers_of(given: Option<&str>) -> Option<u8>
     }
 }
 
-// The number of workers that a text spells.
+// Returns the number of workers that a text spells, or `None` if it spells none.
 fn crew_of(text: &str) -> Option<u8>
     ensures some { IfSome result (λ workers. SpellsCrew text.now workers) }
     ensures none { IfNone result ((workers : ℕ) → SpellsCrew text.now workers → ⊥) }
@@ -112,7 +113,8 @@ fn crew_of(text: &str) -> Option<u8>
     }
 }
 
-// The bound that is given, if it is one.
+// Returns the given bound, or the default if none is given. Returns `None` if the text spells no
+// bound.
 fn bound_of(given: Option<&str>) -> Option<u32>
     ensures some { IfSome result (λ bound.
         IsBoundIn (option_map (λ text. text.now) given.entry) bound) }
@@ -126,7 +128,7 @@ fn bound_of(given: Option<&str>) -> Option<u32>
     }
 }
 
-// The bound that a text spells.
+// Returns the bound that a text spells, or `None` if it spells none.
 fn most_of(text: &str) -> Option<u32>
     ensures some { IfSome result (λ bound. SpellsBound text.now bound) }
     ensures none { IfNone result ((bound : ℕ) → SpellsBound text.now bound → ⊥) }

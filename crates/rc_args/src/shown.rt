@@ -1,4 +1,4 @@
-//! What `clap` finds wrong with words that have control characters, as a message shows it.
+//! The faults that `clap` finds in arguments with control characters, which messages show escaped.
 
 use crate::asked::WordsFault;
 use crate::cmdline::{is_memory, matches_of};
@@ -6,9 +6,9 @@ use clap::Error as ClapError;
 use rc_streams::escaping::Shown;
 use std::alloc::{AllocError, Global};
 
-/// The fault of words with which `clap` finds this wrong. Where they have control characters, it is
-/// what `clap` finds wrong with their escapes: its message has no newlines then but those of
-/// `clap`.
+/// Returns the fault of arguments that `clap` refuses with the given error. If they have control
+/// characters, it is the fault that `clap` finds in their escapes. Its message then has no newlines
+/// except those of `clap`.
 pub(crate) fn shown_fault(alloc: Global, words: &[String], error: ClapError) -> WordsFault {
     if !has_controls(words) {
         return WordsFault::Found(error);
@@ -26,7 +26,7 @@ pub(crate) fn shown_fault(alloc: Global, words: &[String], error: ClapError) -> 
     }
 }
 
-// What `clap` finds wrong with words, or where it finds nothing this.
+// Returns the fault that `clap` finds in the arguments, or the given error if it finds none.
 fn fault_of_shown(alloc: Global, words: &[String], error: ClapError) -> WordsFault {
     match matches_of(alloc, words) {
         Ok(matches) => {
@@ -45,7 +45,7 @@ fn fault_of_shown(alloc: Global, words: &[String], error: ClapError) -> WordsFau
     }
 }
 
-// Whether words have control characters.
+// Returns true if any argument has a control character.
 fn has_controls(words: &[String]) -> bool {
     words.iter().any(|word| word
         .as_str()
@@ -53,7 +53,7 @@ fn has_controls(words: &[String]) -> bool {
         .any(|character| character.is_control()))
 }
 
-// The words with escapes in place of their control characters.
+// Copies the arguments, with escapes in place of their control characters.
 fn shown_words(alloc: Global, words: &[String]) -> Result<Vec<String>, AllocError> {
     let mut shown = Vec::new(alloc);
     for word in words {

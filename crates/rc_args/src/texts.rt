@@ -1,4 +1,4 @@
-//! The words of a command, as texts of one's own, and the text of an option.
+//! The positional arguments of a command as owned strings, and the value of an option.
 ghost use Rattle.std.specs.Prelude.{◌≡◌, map, option_map, string_bytes, IfOk};
 ghost use Rattle.clap.specs.Words.{first_of, found_of, rows_of};
 ghost use Rattle.rc_args.specs.Words.{words_in};
@@ -6,7 +6,7 @@ ghost use Rattle.rc_args.specs.Words.{words_in};
 use clap::ArgMatches;
 use std::alloc::{AllocError, Global};
 
-/// The words of a command.
+/// Returns the positional arguments of a command as owned strings.
 pub fn words_in(alloc: Global, matches: &ArgMatches<'_>) -> Result<Vec<String>, AllocError>
     ensures { IfOk result (λ words.
         map string_bytes words.items ≡ words_in (rows_of (found_of matches.now))) }
@@ -17,7 +17,7 @@ pub fn words_in(alloc: Global, matches: &ArgMatches<'_>) -> Result<Vec<String>, 
     }
 }
 
-/// Texts of one's own.
+/// Copies words into owned strings.
 pub fn strings_of(alloc: Global, words: &[&str]) -> Result<Vec<String>, AllocError>
     ensures { IfOk result (λ strings. map string_bytes strings.items ≡ map (λ w. w.now) words.now) }
 {
@@ -29,7 +29,7 @@ pub fn strings_of(alloc: Global, words: &[&str]) -> Result<Vec<String>, AllocErr
     Ok(strings)
 }
 
-/// The text of an option that is given.
+/// Returns the value of an option, or `None` if it is not given.
 pub fn text_in<'a>(matches: &ArgMatches<'a>, id: &str) -> Option<&'a str>
     ensures { option_map (λ text. text.now) result
         ≡ first_of id.now (rows_of (found_of matches.now)) }

@@ -20,7 +20,7 @@ pub struct Transition<'a> {
 /// Why a text is no list of transitions.
 #[derive(Clone, Copy, PartialEq, Eq, Debug, Error)]
 pub enum ListFault {
-    /// It has not the form of one.
+    /// The text is malformed.
     #[error("no list of transitions")]
     Form,
     #[error("out of memory")]
@@ -38,7 +38,7 @@ impl From<AllocError> for ListFault {
     }
 }
 
-/// The transitions of a list: `none`, or `up:NAME` and `down:NAME` with commas between them.
+/// Parses a list of transitions: `none`, or `up:NAME` and `down:NAME` with commas between them.
 pub fn transitions_of<'a>(alloc: Global, list: &'a [u8]) -> Result<Vec<Transition<'a>>, ListFault>
     ensures list { IfOk result (λ all. SpellsList list.entry.now (map listed_of all.items)) }
     ensures wrong { result ≡ Err ListFault.Form → (all : List Listed) →
@@ -51,7 +51,7 @@ pub fn transitions_of<'a>(alloc: Global, list: &'a [u8]) -> Result<Vec<Transitio
     listed(alloc, &words)
 }
 
-/// The transitions of words, one of each.
+/// Parses one transition from each word.
 fn listed<'a>(alloc: Global, words: &[&'a [u8]]) -> Result<Vec<Transition<'a>>, ListFault>
     ensures list { IfOk result (λ all. AreSpelled (map (λ word. word.now) words.now)
         (map listed_of all.items)) }
@@ -75,21 +75,21 @@ fn add<'a>(all: &mut Vec<Transition<'a>>, transition: Transition<'a>) -> Result<
     Ok(all.push(transition)?)
 }
 
-/// The words between the commas.
+/// Splits a list at its commas.
 fn words_of<'a>(alloc: Global, list: &'a [u8]) -> Result<Vec<&'a [u8]>, AllocError>
     ensures { IfOk result (λ words. map (λ word. word.now) words.items ≡ words_in list.entry.now) }
 {
     list.split(|byte| *byte == b',').collect(alloc)
 }
 
-/// Whether the list is empty.
+/// Returns true if the list is `none`, which stands for the empty list.
 fn is_none(list: &[u8]) -> bool
     ensures { IsTrue result ↔ (list.now ≡ codes "none") }
 {
     list == b"none".as_slice()
 }
 
-/// The transition that a word names.
+/// Returns the transition that a word names, or `None` if it names none.
 fn transition_of<'a>(word: &'a [u8]) -> Option<Transition<'a>>
     ensures some { IfSome result (λ one. IsSpelled word.entry.now (listed_of one)) }
     ensures none { IfNone result ((one : Listed) → IsSpelled word.entry.now one → ⊥) }
@@ -109,7 +109,8 @@ fn transition_of<'a>(word: &'a [u8]) -> Option<Transition<'a>>
     }
 }
 
-/// What stands after the prefix of a word, if that is its prefix and something does.
+/// Returns what follows the prefix of a word. Returns `None` if the word lacks the prefix or
+/// nothing follows it.
 fn behind<'a>(word: &'a [u8], front: &[u8]) -> Option<&'a [u8]>
     ensures some { IfSome result (λ rest.
         (word.entry.now ≡ front.now ++ rest.now) × (rest.now ≢ [])) }

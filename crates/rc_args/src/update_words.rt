@@ -1,4 +1,4 @@
-//! What the words ask of `update`.
+//! The arguments of `update`.
 ghost use Rattle.std.specs.Prelude.{◌≡◌, ◌≢◌, codes, map, IfErr, IfOk};
 ghost use Rattle.clap.specs.Words.{found_of, rows_of};
 ghost use Rattle.rc_args.specs.Words.{values_in};
@@ -37,7 +37,8 @@ pub struct UpdateRequest<'a> {
 }
 
 impl<'a> UpdateRequest<'a> {
-    /// The same request, with these where the words name nothing.
+    /// Returns this request with the given defaults for the files and programs that it does not
+    /// name.
     pub fn with_defaults(self, defaults: Defaults<'a>) -> UpdateRequest<'a>
         ensures { update_ask_of result ≡ record (update_ask_of self.entry) {
           session = session_by (defaults_ask_of defaults.entry) (update_ask_of self.entry).session;
@@ -61,7 +62,7 @@ impl<'a> UpdateRequest<'a> {
         }
     }
 
-    /// The same request, begun before or not.
+    /// Returns this request with `again` set to the given value.
     pub fn with_again(self, again: bool) -> UpdateRequest<'a>
         ensures { update_ask_of result ≡ record (update_ask_of self.entry) { again = again } }
     {
@@ -83,7 +84,7 @@ impl<'a> UpdateRequest<'a> {
         }
     }
 
-    /// The same request with these conversions.
+    /// Returns this request with the given conversions in place of its own.
     pub fn with_conversions(self, conversions: Vec<Conversion<'a>>) -> UpdateRequest<'a>
         ensures { update_ask_of result ≡ record (update_ask_of self.entry) {
           conversions = conversions_of conversions.entry.items;
@@ -108,7 +109,7 @@ impl<'a> UpdateRequest<'a> {
     }
 }
 
-/// What the matches of `update` ask.
+/// Reads the arguments of `update` from its matches.
 pub(crate) fn update_in<'a>(
     alloc: Global,
     matches: &ArgMatches<'a>,
@@ -133,7 +134,7 @@ pub(crate) fn update_in<'a>(
     })
 }
 
-// What is restarted anyway.
+// Returns the conversions of the services that are restarted though unchanged.
 fn restarts_in<'a>(
     alloc: Global,
     matches: &ArgMatches<'a>,
@@ -147,7 +148,7 @@ fn restarts_in<'a>(
     }
 }
 
-// These are restarted.
+// Creates the conversions that restart the named services.
 fn restarts_of<'a>(alloc: Global, names: &[&'a str]) -> Result<Vec<Conversion<'a>>, AllocError>
     ensures { IfOk result (λ list.
         conversions_of list.items ≡ map (λ name. restart_of name.now) names.now) }
@@ -159,7 +160,7 @@ fn restarts_of<'a>(alloc: Global, names: &[&'a str]) -> Result<Vec<Conversion<'a
     Ok(list)
 }
 
-// This is restarted.
+// Creates the conversion that restarts a service under its own name.
 fn restart_of<'a>(name: &'a str) -> Conversion<'a>
     ensures { conversion_of result ≡ restart_of name.entry.now }
 {

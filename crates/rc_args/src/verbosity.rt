@@ -17,7 +17,7 @@ pub enum Verbosity {
     Transitions,
 }
 
-/// What a session of lines reports: nothing unless that is asked.
+/// Returns the verbosity of a session of lines, which reports nothing unless a flag says so.
 pub(crate) fn lines_verbosity(matches: &ArgMatches<'_>) -> Verbosity
     ensures { result ≡ lines_verbosity (rows_of (found_of matches.now)) }
 {
@@ -30,7 +30,8 @@ pub(crate) fn lines_verbosity(matches: &ArgMatches<'_>) -> Verbosity
     }
 }
 
-/// What one command reports: the transitions that do not succeed, unless more or less is asked.
+/// Returns the verbosity of a single command. It reports the transitions that do not succeed,
+/// unless a flag says more or less.
 pub(crate) fn command_verbosity(matches: &ArgMatches<'_>) -> Verbosity
     ensures { result ≡ command_verbosity (rows_of (found_of matches.now)) }
 {

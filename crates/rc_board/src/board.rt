@@ -33,7 +33,7 @@ impl Model for Board {
 }
 
 impl Board {
-    /// A board before its start.
+    /// Creates a board before its start.
     pub fn new(run: Run) -> Board
         ensures { result ≡ run }
     {
@@ -44,7 +44,7 @@ impl Board {
         }
     }
 
-    /// Whether the workers may begin.
+    /// Returns whether the workers may begin.
     pub fn start(&self) -> Start {
         self.start
     }
@@ -56,26 +56,26 @@ impl Board {
         self.start = start;
     }
 
-    /// Whether a worker waits for a change.
+    /// Returns true if a worker waits for a change.
     pub(crate) fn is_awaited(&self) -> bool {
         self.waiting > 0
     }
 
-    /// Counts one worker more that waits for a change.
+    /// Counts one more worker that waits for a change.
     pub(crate) fn begin_wait(&mut self)
         ensures { self.new ≡ self.old }
     {
         self.waiting = self.waiting.saturating_add(1);
     }
 
-    /// Counts one worker less that waits.
+    /// Counts one worker less that waits for a change.
     pub(crate) fn end_wait(&mut self)
         ensures { self.new ≡ self.old }
     {
         self.waiting = self.waiting.saturating_sub(1);
     }
 
-    /// The run that it leaves.
+    /// Returns the run that the board leaves.
     pub(crate) fn into_run(self) -> Run
         ensures { result ≡ self }
     {

@@ -22,9 +22,9 @@ use std::alloc::Global;
 use std::sync::Wait;
 use std::thread::Threads;
 
-/// Makes a change by this many workers, from 1 to 64. What the gate answers is how the
-/// transitions ended; each event is shown to the watch. Where nothing is to move nothing happens,
-/// whatever the limit: no event, and no stop.
+/// Makes a change with this many workers, from 1 to 64. The gate returns how the transitions ended,
+/// and each event is shown to the watch. If nothing is to move, nothing happens, whatever the
+/// timeout: no event, and no stop.
 pub fn change<R: Threads + Wait + Sync, G: Gate, W: Watch>(
     rt: &R,
     alloc: Global,
@@ -58,8 +58,8 @@ pub fn change<R: Threads + Wait + Sync, G: Gate, W: Watch>(
     }
 }
 
-/// Goes back towards the state before, as `change` changes, with a
-/// limit in milliseconds, 0 for none.
+/// Goes back towards the state before the current one, with workers, gate and watch as in `change`.
+/// `limit` is the timeout in milliseconds, 0 for none.
 pub fn undo<R: Threads + Wait + Sync, G: Gate, W: Watch>(
     rt: &R,
     alloc: Global,
@@ -93,7 +93,8 @@ pub fn undo<R: Threads + Wait + Sync, G: Gate, W: Watch>(
     }
 }
 
-/// Goes on towards the state after, as `change` changes, with a limit in milliseconds, 0 for none.
+/// Goes on towards the state after the current one, with workers, gate and watch as in `change`.
+/// `limit` is the timeout in milliseconds, 0 for none.
 pub fn redo<R: Threads + Wait + Sync, G: Gate, W: Watch>(
     rt: &R,
     alloc: Global,
@@ -127,8 +128,8 @@ pub fn redo<R: Threads + Wait + Sync, G: Gate, W: Watch>(
     }
 }
 
-/// Carries a command out that was begun. Where its run can't be made it is given up: nothing was
-/// taken then, or the workers left another board than theirs, and the session is poisoned.
+/// Carries out a command that was begun. If its run can't be made, the command is given up: either
+/// nothing was taken, or the workers left another board than theirs, and the session is poisoned.
 fn carry_out<R: Threads + Wait + Sync, G: Gate, W: Watch>(
     executor: &Executor<'_, R, G>,
     watch: &W,
@@ -172,7 +173,7 @@ fn carry_out<R: Threads + Wait + Sync, G: Gate, W: Watch>(
     }
 }
 
-/// Whether there may be this many workers.
+/// Returns true if there may be this many workers.
 fn is_crew(workers: u8) -> bool
     ensures { IsTrue result ↔ IsCrew workers }
 {

@@ -46,13 +46,13 @@ impl<R, G, W> Clone for Crew<'_, R, G, W> {
 impl<R, G, W> Copy for Crew<'_, R, G, W> {}
 
 impl<R, G, W: Watch> Crew<'_, R, G, W> {
-    /// The watch, as workers have it.
+    /// Returns the watch, as workers have it.
     pub(crate) fn view(&self) -> View<'_, W> {
         View::new(self.watch)
     }
 }
 
-/// What one worker owns. The glance is wanting where the watch wants no looks.
+/// What one worker owns. There is no glance if the watch wants no looks.
 #[derive(Drop)]
 pub(crate) struct Tools {
     pub(crate) pad: Pad,
@@ -80,7 +80,7 @@ impl<'a, G: Gate> Promise<Pad> for Said<'a, G> {
         AreSaid (G.answers said.gate.now) (G.gives said.gate.now) said.deadline pad.notes };
 }
 
-/// The tools of each worker, with room for all that it may write down and see.
+/// Creates the tools of each worker, with room for all that it may write down and see.
 pub(crate) fn tools_of(
     alloc: Global,
     run: &Run,
@@ -100,7 +100,7 @@ pub(crate) fn tools_of(
     Ok(all)
 }
 
-/// A glance, where looks are wanted.
+/// Creates a glance, if looks are wanted.
 fn glance_of(alloc: Global, run: &Run, looks: bool) -> Result<Option<Glance>, NoMem>
     requires { run.now.events ≡ [] }
 {
@@ -111,8 +111,8 @@ fn glance_of(alloc: Global, run: &Run, looks: bool) -> Result<Option<Glance>, No
     }
 }
 
-/// Has the workers make the run on the board, of whom the caller is worker 1, and gives their pads,
-/// that of worker 1 first. None: not all of the others could be started, and nothing was taken.
+/// Has the workers make the run on the board, with the caller as worker 1. Returns their pads, that
+/// of worker 1 first, or `None` if not all of the others could be started. Nothing was taken then.
 pub(crate) fn run_crew<G: Gate, W: Watch, R: Threads + Wait + Sync>(
     executor: &Executor<'_, R, G>,
     watch: &W,
@@ -159,9 +159,9 @@ pub(crate) fn run_crew<G: Gate, W: Watch, R: Threads + Wait + Sync>(
     )
 }
 
-/// Starts the workers with the numbers from this one down to 2, opens the start once all are
-/// there, works as worker 1, joins the others, and adds their pads, that of worker 1 first.
-/// False: one could not be started.
+/// Starts the workers with the numbers from this one down to 2, opens the start once all are there,
+/// works as worker 1, joins the others, and adds their pads, that of worker 1 first. Returns false
+/// if one could not be started.
 fn start_rest<'s, E, G: Gate, W: Watch, R: Threads + Wait + Sync>(
     scope: &'s Scope<'s, E>,
     crew: Crew<'s, R, G, W>,
@@ -200,7 +200,7 @@ fn start_rest<'s, E, G: Gate, W: Watch, R: Threads + Wait + Sync>(
     all
 }
 
-/// Starts a worker. None: it could not be started.
+/// Starts a worker. Returns `None` if it could not be started.
 fn started<'s, E, G: Gate, W: Watch, R: Threads + Wait + Sync>(
     scope: &'s Scope<'s, E>,
     crew: Crew<'s, R, G, W>,

@@ -44,7 +44,7 @@ impl Model for Glance {
 impl Glance {
     ghost use Rattle.rc_board.specs.Sight.{IsOfRun, IsShown};
 
-    /// What is seen of a run in which nothing has happened, with room for all that may happen.
+    /// Creates a glance at a run in which nothing has happened, with room for all that may happen.
     pub(crate) fn new(alloc: Global, run: &Run) -> Result<Glance, NoMem>
         requires { run.now.events ≡ [] }
         ensures shown { IfOk result (IsShown run.now.course []) }
@@ -61,14 +61,14 @@ impl Glance {
         })
     }
 
-    /// How many services there are.
+    /// Returns the number of services.
     pub fn services(&self) -> usize
         ensures { result ≡ length self.now.standings }
     {
         self.standings.len()
     }
 
-    /// Where a service stands.
+    /// Returns the standing of a service.
     pub fn standing(&self, service: u16) -> Standing
         requires { service < length self.now.standings }
         ensures { result ≡ slice_index_or self.now.standings service Standing.Down }
@@ -76,8 +76,8 @@ impl Glance {
         self.standings[service as usize]
     }
 
-    /// The events so far, in order. They are a run of some course, and the services stand as they
-    /// stand after them.
+    /// Returns the events so far, in order. They are a run of some course, and the services stand
+    /// as they stand after these events.
     pub fn events(&self) -> &[Event]
         ensures events { result.now ≡ self.now.events }
         ensures run { IsOfRun self.now }
@@ -85,14 +85,14 @@ impl Glance {
         self.events.as_slice()
     }
 
-    /// How many services are to move in the runs that it can show.
+    /// Returns the number of services that are to move in the runs that the glance can show.
     pub(crate) fn planned(&self) -> usize
         ensures { result ≡ self.now.planned }
     {
         self.planned
     }
 
-    /// Shows all of a run. Takes no memory.
+    /// Fills the glance with all of a run. Takes no memory.
     pub(crate) fn refill(&mut self, run: &Run)
         requires bound { length run.now.course.needs ≡ length self.old.standings }
         requires planned { planned_count run.now.course ≡ self.old.planned }
@@ -103,7 +103,7 @@ impl Glance {
     }
 }
 
-/// Puts events in the place of others, in a list that has the room.
+/// Replaces the events of a list by others, for which it has the room.
 fn refill_events(to: &mut Vec<Event>, from: &[Event])
     requires { length from.now ≤ vec_capacity to.old }
     ensures items { to.new.items ≡ from.now }

@@ -11,8 +11,8 @@ use crate::pad::Pad;
 use rc_core::Event;
 use rc_set::Set;
 
-/// Whether the events are an interleaving of the pads, where this is up at first. It looks at each
-/// event once.
+/// Returns true if the events are an interleaving of the pads. `up` is what is up at first. Looks
+/// at each event once.
 #[inline(never)]
 pub(crate) fn are_interleaved(up: &Set, pads: &[Pad], events: &[Event]) -> bool
     requires { length pads.now ≤ 64 }
@@ -30,15 +30,15 @@ pub(crate) fn are_interleaved(up: &Set, pads: &[Pad], events: &[Event]) -> bool
     are_read(pads, &read)
 }
 
-/// The place before the first note, of each pad that there may be.
+/// Returns the place before the first note, for each pad that there may be.
 fn unread() -> [usize; 64]
     ensures { result ≡ replicate 64 0 }
 {
     [0; 64]
 }
 
-/// Reads one event further. False: no worker of the crew made it, or it is not next on the pad of
-/// its worker with the way of its service.
+/// Reads one event further. Returns false if no worker of the crew made it, or if it is not next on
+/// the pad of its worker with the way of its service.
 #[inline(always)]
 fn read_on(up: &Set, pads: &[Pad], read: &mut [usize], event: Event) -> bool
     requires room { length pads.now ≤ length read.old }
@@ -56,7 +56,7 @@ fn read_on(up: &Set, pads: &[Pad], read: &mut [usize], event: Event) -> bool
     true
 }
 
-/// Whether a worker up to this number made an event.
+/// Returns true if a worker up to this number made an event.
 #[inline(always)]
 fn is_of_crew(event: Event, workers: usize) -> bool
     ensures { IsTrue result ↔ IsOfCrew workers event }
@@ -64,7 +64,8 @@ fn is_of_crew(event: Event, workers: usize) -> bool
     1 <= worker_of(event) && worker_of(event) as usize <= workers
 }
 
-/// Whether an event is noted at this place, with the way of its service, where this is up at first.
+/// Returns true if an event is noted at this place, with the way of its service. `up` is what is up
+/// at first.
 #[inline(always)]
 fn is_next(up: &Set, notes: &[Note], at: usize, event: Event) -> bool
     ensures { IsTrue result ↔ IsNext notes.now at event (way_of up.now event) }
@@ -72,7 +73,7 @@ fn is_next(up: &Set, notes: &[Note], at: usize, event: Event) -> bool
     at < notes.len() && notes[at].event == event && is_way_of(up, event, notes[at].way)
 }
 
-/// Whether nothing is left on the pads after these places.
+/// Returns true if nothing is left on the pads after these places.
 fn are_read(pads: &[Pad], read: &[usize]) -> bool
     requires { length pads.now ≤ length read.now }
     ensures { IsTrue result ↔ AreLeft pads.now read.now [] }
@@ -85,7 +86,7 @@ fn are_read(pads: &[Pad], read: &[usize]) -> bool
     true
 }
 
-/// Whether the events of this worker are those that it noted.
+/// Returns true if the events of this worker are those that it noted.
 pub(crate) fn is_own(events: &[Event], notes: &[Note], worker: u8) -> bool
     ensures { IsTrue result ↔ (own worker events.now ≡ events_on notes.now) }
 {

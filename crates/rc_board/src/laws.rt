@@ -23,7 +23,7 @@ use rc_core::{Ended, Event, NotLegal, Outcome, Took};
 use rc_graph::{Graph, Way};
 use rc_select::Plan;
 
-/// A worker asks for a job. It writes its take down where it is given one.
+/// Asks for a job as a worker. If the worker gets one, its take is written down.
 #[inline(always)]
 pub fn hold_take(board: &mut Board, pad: &mut Pad, worker: u8) -> Result<Took, NotLegal>
     requires room { 0 < pad.old.room }
@@ -41,7 +41,7 @@ pub fn hold_take(board: &mut Board, pad: &mut Pad, worker: u8) -> Result<Took, N
     took
 }
 
-/// A worker tells how its transition ended, which went this way, and writes it down.
+/// Reports how the transition of a worker ended, which went this way, and writes that down.
 #[inline(always)]
 pub fn hold_done(
     board: &mut Board,
@@ -70,7 +70,7 @@ pub fn hold_done(
     done
 }
 
-/// A worker stops the run at a moment, and writes it down.
+/// Stops the run at a moment as a worker, and writes that down.
 #[inline(always)]
 pub fn hold_stop(board: &mut Board, pad: &mut Pad, worker: u8, moment: u64) -> Result<(), NotLegal>
     requires room { 0 < pad.old.room }
@@ -90,9 +90,9 @@ pub fn hold_stop(board: &mut Board, pad: &mut Pad, worker: u8, moment: u64) -> R
     stopped
 }
 
-/// A worker looks at the board: where that is as large as the glance was made for, and has of this
-/// worker what is on its pad, the glance then shows all of it. Takes no memory, and goes once over
-/// the services and the events.
+/// Looks at the board as a worker. Returns true if the board is as large as the glance was made
+/// for, and has of this worker what is on its pad. The glance then shows all of the board. Takes no
+/// memory, and goes once over the services and the events.
 pub fn hold_look(board: &Board, pad: &Pad, worker: u8, glance: &mut Glance) -> bool
     ensures fits { IsTrue result ↔ ((length board.now.course.needs ≡ length glance.old.standings)
         × (planned_count board.now.course ≡ glance.old.planned)
@@ -109,8 +109,9 @@ pub fn hold_look(board: &Board, pad: &Pad, worker: u8, glance: &mut Glance) -> b
     fits
 }
 
-/// The end of the run that the workers leave, if it is a settled run of this plan, on this graph
-/// and with this deadline, and they wrote down just its events. The first pad is that of worker 1.
+/// Returns the end of the run that the workers leave. Fails unless it is a settled run of this
+/// plan, on this graph and with this deadline, and they wrote down just its events. The first pad
+/// is that of worker 1.
 pub fn gather(
     graph: &Graph,
     plan: &Plan,

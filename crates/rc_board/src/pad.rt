@@ -29,7 +29,8 @@ impl Model for Pad {
 }
 
 impl Pad {
-    /// An empty pad, with room for all that one worker may do in a run that moves so many services.
+    /// Creates an empty pad, with room for all that one worker may do in a run that moves this many
+    /// services.
     pub fn new(alloc: Global, planned: usize) -> Result<Pad, NoMem>
         requires { planned ≤ 8192 }
         ensures empty { IfOk result (λ pad. pad.notes ≡ []) }
@@ -39,7 +40,7 @@ impl Pad {
         Ok(Pad { notes })
     }
 
-    /// For how many more events there is room.
+    /// Returns the number of events for which there is still room.
     #[inline(always)]
     pub fn room(&self) -> usize
         ensures { result ≡ self.now.room }
@@ -47,7 +48,7 @@ impl Pad {
         self.notes.capacity() - self.notes.len()
     }
 
-    /// What is written down.
+    /// Returns what is written down.
     pub fn notes(&self) -> &[Note]
         ensures { result.now ≡ self.now.notes }
     {

@@ -53,7 +53,7 @@ pub(crate) struct Course<'a> {
     pub(crate) deadline: Option<u64>,
 }
 
-/// Has workers make the run of a plan, of whom the caller is the first. No more are started than
+/// Has workers make the run of a plan, with the caller as the first. Starts no more of them than
 /// there are services to move. All room that they will need is made before.
 pub(crate) fn played<R: Threads + Wait + Sync, G: Gate, W: Watch>(
     executor: &Executor<'_, R, G>,
@@ -98,7 +98,7 @@ struct Room {
     pads: Vec<Pad>,
 }
 
-/// All room that the workers of a run will need.
+/// Creates all room that the workers of a run will need.
 fn room_for(alloc: Global, run: &Run, workers: u8, looks: bool) -> Result<Room, NoMem>
     requires fresh { run.now.events ≡ [] }
     requires few { planned_count run.now.course ≤ 8192 }
@@ -115,7 +115,8 @@ fn room_for(alloc: Global, run: &Run, workers: u8, looks: bool) -> Result<Room, 
     Ok(Room { tools, pads })
 }
 
-/// As many of these workers as there are services to move: no other would have anything to do.
+/// Returns the number of workers for a run: as many of these as there are services to move, since
+/// no other would have anything to do.
 fn crew_for(workers: u8, planned: usize) -> u8
     requires crew { IsCrew workers }
     requires some { 0 < planned }
@@ -130,7 +131,7 @@ fn crew_for(workers: u8, planned: usize) -> u8
 }
 
 /// Has workers make a run in which something is to move. Takes no memory but that of their threads.
-/// They may be fewer than the executor has.
+/// There may be fewer workers than the executor has.
 fn worked<R: Threads + Wait + Sync, G: Gate, W: Watch>(
     executor: &Executor<'_, R, G>,
     watch: &W,

@@ -1,12 +1,13 @@
-//! What time it is to a run, as its gate and its deadline tell.
+//! The time of a run, by its gate and its deadline.
 
 ghost use Rattle.rc_board.specs.Timing.{IsTimeOf};
 
 use crate::gate::Gate;
 
 /// The leave to take one service: there is no deadline, or the gate gave a moment before it. A
-/// worker asks the gate for one before each take and gives it up with that, but no clause says so:
-/// the clauses say that the gate may give such a moment, and tests that it is asked each time.
+/// worker asks the gate for a moment before each take, and gives the leave up with that. No clause
+/// says so: the clauses say that the gate may give such a moment, and tests show that it is asked
+/// each time.
 #[derive(Drop)]
 pub(crate) struct Leave {
     /// The moment that it was, where there is a deadline.
@@ -21,7 +22,7 @@ pub(crate) enum Time {
     Early(Leave),
 }
 
-/// The time to a deadline. Without one the gate is not asked.
+/// Returns the time with regard to a deadline. Without a deadline, the gate is not asked.
 #[inline(always)]
 pub(crate) fn time_of<G: Gate>(gate: &G, deadline: Option<u64>) -> Time
     ensures { IsTimeOf (G.gives gate.now) deadline result }

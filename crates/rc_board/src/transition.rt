@@ -55,7 +55,7 @@ pub(crate) fn make<G: Gate>(gate: &G, taken: Taken) -> Made
 
 impl Made {
     /// Reports to the board how a transition ended, as the worker that took its job, and writes it
-    /// down, where there is room and the board accepts it.
+    /// down, if there is room and the board accepts it.
     #[inline(always)]
     pub(crate) fn enter(self, board: &mut Board, pad: &mut Pad)
         ensures { EntersEnd board.old pad.old self board.new pad.new }

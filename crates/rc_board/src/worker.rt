@@ -59,7 +59,7 @@ pub(crate) fn work<G: Gate, W: Watch, R: Wait>(
     pad
 }
 
-/// Waits for the start. True: it was opened.
+/// Waits for the start. Returns true if it was opened.
 fn await_start<R: Wait>(rt: &R, shared: &Shared) -> bool {
     let guard = shared
         .changed
@@ -69,8 +69,9 @@ fn await_start<R: Wait>(rt: &R, shared: &Shared) -> bool {
     guard.start() == Start::Opened
 }
 
-/// Stops the run if it is time, else asks for a job, in a hold of its own, and makes the job. Where
-/// there is none yet, it waits for a change. False: nothing is left to do for this worker.
+/// Stops the run if it is time. Otherwise asks for a job, in a hold of its own, and makes the job.
+/// If there is none yet, waits for a change. Returns false if nothing is left to do for this
+/// worker.
 #[inline(always)]
 fn turn<G: Gate, W: Watch, R: Wait>(
     crew: &Crew<'_, R, G, W>,
@@ -117,7 +118,7 @@ fn turn<G: Gate, W: Watch, R: Wait>(
 }
 
 /// Has the gate make the transition of a job, and reports to the board how it ended, in a hold of
-/// its own. It wakes nobody, since this worker asks for the next job after it.
+/// its own. Wakes nobody, since this worker asks for the next job after it.
 #[inline(always)]
 fn transit<G: Gate, W: Watch, R: Wait>(crew: &Crew<'_, R, G, W>, pad: &mut Pad, taken: Taken)
     requires { AreSaid (G.answers crew.now.gate.now) (G.gives crew.now.gate.now)
@@ -141,7 +142,7 @@ fn locked<'s, R: Wait>(rt: &R, shared: &'s Shared) -> MutexGuard<'s, Board> {
     }
 }
 
-/// Lets the board go after a take, and wakes one that waits, if any does.
+/// Unlocks the board after a take, and wakes one worker that waits, if any does.
 #[inline(always)]
 fn let_go(shared: &Shared, guard: MutexGuard<Board>) {
     let wakes = guard.is_awaited();
@@ -151,14 +152,14 @@ fn let_go(shared: &Shared, guard: MutexGuard<Board>) {
     }
 }
 
-/// Waits for a change, counted on the board as one that waits.
+/// Waits for a change. The board counts this worker as one that waits.
 fn await_change<R: Wait>(rt: &R, shared: &Shared, mut guard: MutexGuard<Board>) {
     guard.begin_wait();
     let mut guard = shared.changed.wait(rt, guard);
     guard.end_wait();
 }
 
-/// Stops the run where it is late, else asks for a job, and gives the leave up for it.
+/// Stops the run if it is late. Otherwise asks for a job, and gives the leave up for it.
 #[inline(always)]
 fn next_on(board: &mut Board, pad: &mut Pad, worker: u8, time: Time) -> Asked
     ensures { NotesAsked pad.old worker time result pad.new }

@@ -12,9 +12,9 @@ use rc_db::{Db, MAX_BUNDLES, NoMem, Table, first_unknown, has_bundle, has_name};
 use rc_names::{Name, Names};
 use std::alloc::{AllocError, Global};
 
-/// Defines a bundle: its name stands for the services of its contents from then on. A name that
-/// is a bundle's already gets new contents only where that is forced; a bundle may then name
-/// itself, and means what it was.
+/// Defines a bundle: its name stands for the services of its contents from then on. If a bundle has
+/// the name already, it gets new contents only if `force` is set. Its contents may then include its
+/// own name, which stands for what the bundle was before.
 pub fn add(
     alloc: Global,
     table: &mut Table,
@@ -40,8 +40,8 @@ pub fn add(
     Ok(edit)
 }
 
-/// Removes bundles. Names of no bundle are passed over only where that is forced;
-/// a name given twice counts once.
+/// Removes bundles. Names of no bundle are passed over only if `force` is set. A name that is given
+/// twice counts once.
 pub fn delete(
     alloc: Global,
     table: &mut Table,
@@ -65,7 +65,7 @@ pub fn delete(
     Ok(edit)
 }
 
-/// The edit that `add` would make, with the table left as it is.
+/// Returns the edit that `add` would make, and leaves the table as it is.
 pub fn added(
     alloc: Global,
     table: &Table,
@@ -88,7 +88,7 @@ pub fn added(
     Ok(edit)
 }
 
-/// The edit that `delete` would make, with the table left as it is.
+/// Returns the edit that `delete` would make, and leaves the table as it is.
 pub fn removed(
     alloc: Global,
     table: &Table,
@@ -109,7 +109,7 @@ pub fn removed(
     Ok(edit)
 }
 
-/// Tests a definition, which takes no memory.
+/// Checks whether a bundle may be defined. Takes no memory.
 fn check_add(
     table: &Table,
     db: &Db,
@@ -125,7 +125,7 @@ fn check_add(
     check_among(db.names(), table, name, contents, force)
 }
 
-/// Tests a definition among the names of services.
+/// Checks whether a bundle may be defined, given the names of the services.
 fn check_among(
     names: &Names,
     table: &Table,
@@ -154,7 +154,7 @@ fn check_among(
     Ok(())
 }
 
-/// Tests a removal, which takes no memory.
+/// Checks whether bundles may be removed. Takes no memory.
 fn check_delete(table: &Table, db: &Db, names: &[String], force: bool) -> Result<(), BundleFault>
     ensures can { OnOk result (CanDelete db.now.names table.now
         (map string_bytes names.now) force) }
@@ -173,7 +173,7 @@ fn check_delete(table: &Table, db: &Db, names: &[String], force: bool) -> Result
     }
 }
 
-/// The table with a bundle defined, and the edit that leads to it.
+/// Returns the table with a bundle defined, and the edit that leads to it.
 fn defined(
     alloc: Global,
     table: &Table,
@@ -203,7 +203,7 @@ fn defined(
         return Err(AllocError);
     };
     drop(before);
-    // What its length tells of the table is that it is one.
+    // The contract of `len` says that this is a table.
     let _len = new.len();
     let Ok(edit) = Edit::between(alloc, table, &new) else {
         drop(new);
@@ -212,7 +212,7 @@ fn defined(
     Ok((new, edit))
 }
 
-/// The table with bundles removed, and the edit that leads to it.
+/// Returns the table with bundles removed, and the edit that leads to it.
 fn cleared(alloc: Global, table: &Table, names: &[String]) -> Result<(Table, Edit), NoMem>
     ensures table { IfOk result (λ done. Removes table.now (map string_bytes names.now) done.0) }
     ensures edit { IfOk result (λ done. IsEdit table.now done.0 done.1) }
@@ -224,7 +224,7 @@ fn cleared(alloc: Global, table: &Table, names: &[String]) -> Result<(Table, Edi
     for name in names {
         drop(new.clear(name.as_str()));
     }
-    // What its length tells of the table is that it is one.
+    // The contract of `len` says that this is a table.
     let _len = new.len();
     let Ok(edit) = Edit::between(alloc, table, &new) else {
         drop(new);

@@ -29,7 +29,7 @@ impl Model for Change {
 }
 
 impl Change {
-    /// The same alteration once more.
+    /// Returns a copy of the alteration.
     fn copy(&self, alloc: Global) -> Result<Change, NoMem>
         ensures { IfOk result (λ copy. copy ≡ self.now) }
     {
@@ -55,7 +55,7 @@ impl Model for Edit {
     ghost invariant = { λ e. IsInByteOrder (names_altered e.changes.items) };
 }
 
-// Not derived: a crate that lets one go calls this, and proves nothing of its parts.
+// Not derived: a crate that drops an edit calls this, and proves nothing about its parts.
 impl Drop for Edit {
     fn drop(self) {
         let Edit { changes: _ } = self;
@@ -63,7 +63,7 @@ impl Drop for Edit {
 }
 
 impl Edit {
-    /// How many names alter.
+    /// Returns the number of names that alter.
     pub fn len(&self) -> usize
         ensures len { result ≡ length self.now }
         ensures order { IsInByteOrder (names_altered self.now) }
@@ -71,8 +71,8 @@ impl Edit {
         self.changes.len()
     }
 
-    /// The altered name at a place in byte order, with its set before and its set
-    /// after. None: there it is no bundle.
+    /// Returns the altered name at a place in byte order, with its set before and its set after. A
+    /// set is `None` where the name is no bundle.
     pub fn at(&self, place: usize) -> (&Name, Option<&Set>, Option<&Set>)
         requires { place < length self.now }
         ensures { slice_get self.now place
@@ -86,7 +86,7 @@ impl Edit {
         (&change.name, change.before.as_ref(), change.after.as_ref())
     }
 
-    /// Another edit that alters the same.
+    /// Returns another edit with the same alterations.
     pub fn copy(&self, alloc: Global) -> Result<Edit, NoMem>
         ensures { IfOk result (λ edit. edit ≡ self.now) }
     {
@@ -94,7 +94,7 @@ impl Edit {
         Ok(Edit { changes })
     }
 
-    /// The edit from the first table to the second.
+    /// Creates the edit from the first table to the second.
     pub fn between(alloc: Global, from: &Table, to: &Table) -> Result<Edit, NoMem>
         ensures { IfOk result (IsEdit from.now to.now) }
     {
@@ -115,7 +115,7 @@ impl Edit {
     }
 }
 
-/// The same alterations once more.
+/// Returns copies of alterations.
 fn copy_changes(alloc: Global, changes: &[Change]) -> Result<Vec<Change>, NoMem>
     ensures { IfOk result (λ copies. copies.items ≡ changes.now) }
 {
@@ -129,7 +129,7 @@ fn copy_changes(alloc: Global, changes: &[Change]) -> Result<Vec<Change>, NoMem>
     Ok(copies)
 }
 
-/// One more alteration, the same as another.
+/// Appends a copy of an alteration.
 fn push_copy(alloc: Global, copies: &mut Vec<Change>, change: &Change) -> Result<(), NoMem>
     ensures { OnOk result (copies.new.items ≡ copies.old.items ++ change.now ∷ []) }
 {
@@ -138,7 +138,7 @@ fn push_copy(alloc: Global, copies: &mut Vec<Change>, change: &Change) -> Result
     Ok(())
 }
 
-/// The least of the names at two places of two tables, with its sets.
+/// Returns the least of the names at two places of two tables, with its sets.
 fn next_name<'a>(
     from: &'a Table,
     i: u16,
@@ -165,7 +165,7 @@ fn next_name<'a>(
     }
 }
 
-/// The place one on, where a set stood there.
+/// Returns the next place if a set stood at this place, and this place otherwise.
 fn place_after(place: u16, set: Option<&Set>) -> u16
     requires { place ≤ 4096 }
     ensures { result ≡ next_place place (option_copied set.entry) }
@@ -176,7 +176,7 @@ fn place_after(place: u16, set: Option<&Set>) -> u16
     }
 }
 
-/// Notes a name whose sets differ.
+/// Appends the alteration of a name if its sets differ.
 fn note(
     alloc: Global,
     changes: &mut Vec<Change>,
@@ -195,7 +195,7 @@ fn note(
     Ok(())
 }
 
-/// The change of a name, with copies of its sets.
+/// Creates the alteration of a name, with copies of its sets.
 fn change_of(
     alloc: Global,
     name: &Name,
@@ -224,7 +224,7 @@ fn change_of(
     })
 }
 
-/// Whether a name has the same set, or none, on both sides.
+/// Returns true if a name has the same set, or none, on both sides.
 fn are_same(before: Option<&Set>, after: Option<&Set>) -> bool
     ensures { IsTrue result ↔ (option_copied before.entry ≡ option_copied after.entry) }
 {
@@ -235,7 +235,7 @@ fn are_same(before: Option<&Set>, after: Option<&Set>) -> bool
     }
 }
 
-/// The same set once more, where there is one.
+/// Returns a copy of a set, if there is one.
 fn copy_set(alloc: Global, set: Option<&Set>) -> Result<Option<Set>, NoMem>
     ensures { IfOk result (λ copy. copy ≡ option_copied set.entry) }
 {

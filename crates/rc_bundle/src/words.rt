@@ -3,7 +3,7 @@ ghost use Rattle.rc_model.specs.Database.{IsFirst, IsBundle};
 
 use rc_db::{Db, Table, has_bundle, has_name};
 
-/// The place of the first word that is the name of a service.
+/// Returns the place of the first word that is the name of a service, if there is one.
 pub(crate) fn first_service(db: &Db, words: &[String]) -> Option<usize>
     ensures some { IfSome result (IsFirst (Contains db.now.names) (map string_bytes words.now)) }
     ensures none { IfNone result (All (λ word. Contains db.now.names word → ⊥)
@@ -17,7 +17,7 @@ pub(crate) fn first_service(db: &Db, words: &[String]) -> Option<usize>
     None
 }
 
-/// The place of the first word that is no bundle's name.
+/// Returns the place of the first word that is no bundle's name, if there is one.
 pub(crate) fn first_missing(table: &Table, words: &[String]) -> Option<usize>
     ensures some { IfSome result (IsFirst (λ word. IsBundle table.now word → ⊥)
         (map string_bytes words.now)) }

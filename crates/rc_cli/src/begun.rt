@@ -22,8 +22,8 @@ use rc_set::NoMem;
 use rc_update::{Conversion, carry};
 use std::alloc::{AllocError, Global};
 
-/// Whether a run log is that of the first step of an update from the database `old` to the database
-/// `new`, of the session whose text is `file`.
+/// Returns true if a run log is that of the first step of an update from the database `old` to the
+/// database `new`, on the session whose text is `file`.
 pub fn begins_update(
     alloc: Global,
     old: &[u8],
@@ -55,7 +55,7 @@ pub fn begins_update(
     begins
 }
 
-/// The database of a text. None: the text is none of a database.
+/// Reads the database of a text. Returns `None` if the text is not that of a database.
 pub(crate) fn database_in(alloc: Global, text: &[u8]) -> Result<Option<Db>, NoMem>
     ensures some { IfOk result (λ read. IfSome read (λ d. Spells (Some text.now) [] d [])) }
     ensures none { IfOk result (λ read. IfNone read (
@@ -69,7 +69,8 @@ pub(crate) fn database_in(alloc: Global, text: &[u8]) -> Result<Option<Db>, NoMe
     }
 }
 
-// The same of two databases.
+// Returns true if a run log is that of the first step of an update from the database `from` to the
+// database `to`, on the session whose text is `file`.
 fn begins_on(
     alloc: Global,
     from: &Db,
@@ -94,7 +95,7 @@ fn begins_on(
     begins
 }
 
-// What stands in bytes after these, if they begin with them.
+// Returns what follows the given bytes, or `None` if `bytes` does not begin with them.
 fn behind<'a>(front: &[u8], bytes: &'a [u8]) -> Option<&'a [u8]>
     ensures { MatchOption result ((rest : List ℕ) → bytes.now ≡ front.now ++ rest → ⊥)
         (λ rest. bytes.now ≡ front.now ++ rest.now) }
@@ -102,8 +103,8 @@ fn behind<'a>(front: &[u8], bytes: &'a [u8]) -> Option<&'a [u8]>
     bytes.strip_prefix(front)
 }
 
-// The names that the first step of an update lowers, of the session whose text this is. None: the
-// text is none of a session of the database.
+// Returns the names that the first step of an update lowers, on the session with the given text.
+// Returns `None` if the text is not that of a session of the database.
 fn lowered(
     alloc: Global,
     from: &Db,
@@ -132,14 +133,14 @@ fn lowered(
     }
 }
 
-// Whether memory ran out.
+// Returns true if memory ran out.
 fn is_memory(fault: LiveFault) -> bool
     ensures { IsTrue result ↔ (fault ≡ LiveFault.Memory) }
 {
     matches!(fault, LiveFault::Memory)
 }
 
-// Whether the first line of these bytes is that of the step that lowers these names.
+// Returns true if the first line of the bytes is that of the step that lowers the given names.
 fn says_lowering(alloc: Global, bytes: &[u8], names: &[String]) -> Result<bool, NoMem>
     ensures { IfOk result (λ says. IsTrue says
         ↔ SaysLowering bytes.now (map string_bytes names.now)) }
@@ -158,7 +159,8 @@ fn says_lowering(alloc: Global, bytes: &[u8], names: &[String]) -> Result<bool, 
     }
 }
 
-// The line at the beginning without its newline, and what follows it.
+// Returns the first line without its newline, and what follows it. Returns `None` if there is no
+// newline.
 fn first_line(bytes: &[u8]) -> Option<(&[u8], &[u8])>
     ensures line { IfSome result (λ cut. (bytes.now ≡ cut.0.now ++ 10 ∷ cut.1.now)
         × All (λ byte. byte ≢ 10) cut.0.now) }
@@ -168,7 +170,7 @@ fn first_line(bytes: &[u8]) -> Option<(&[u8], &[u8])>
     Some((&bytes[..end], &bytes[end + 1..]))
 }
 
-// Whether a command is the one that lowers these names, under the least limit.
+// Returns true if a command is the one that lowers the given names, under the least limit.
 fn is_lowering(command: &Command, names: &[String]) -> bool
     ensures { IsTrue result ↔ (plain_of command.now ≡ lowering (map string_bytes names.now)) }
 {

@@ -31,9 +31,9 @@ use rc_session::{Begun, Command, Refusal, Session};
 use rc_set::{NoMem, Set};
 use std::alloc::{AllocError, Global};
 
-/// A longrun that the first line of a service would move, where programs are started and none
-/// controls longruns. None: there is none, the line is refused, or the database is read from the
-/// input.
+/// Returns a longrun that the first line of a service would move, if programs are started and none
+/// controls longruns. Returns `None` if there is no such longrun, the line is refused, or the
+/// database is read from the input.
 pub(crate) fn uncontrolled(
     alloc: Global,
     launch: &Launch<'_>,
@@ -60,7 +60,7 @@ pub(crate) fn uncontrolled(
     }
 }
 
-// A longrun that the first step of a restart would move.
+// Returns a longrun that the first step of a restart would move.
 fn moved_down(
     alloc: Global,
     session: &mut Session,
@@ -83,8 +83,8 @@ fn moved_down(
     found
 }
 
-/// A longrun that either step of an update would move, where programs are started and none controls
-/// longruns. None: there is none, or that step is refused.
+/// Returns a longrun that either step of an update would move, if programs are started and none
+/// controls longruns. Returns `None` if there is no such longrun, or that step is refused.
 pub(crate) fn uncontrolled_step(
     alloc: Global,
     request: &SessionRequest<'_>,
@@ -111,7 +111,7 @@ pub(crate) fn uncontrolled_step(
     }
 }
 
-// Whether programs are started, and none controls longruns.
+// Returns true if programs are started and none controls longruns.
 fn lacks_controller(request: &SessionRequest<'_>) -> bool
     ensures { IsTrue result ↔ LacksController (session_ask_of request.now) }
 {
@@ -121,7 +121,7 @@ fn lacks_controller(request: &SessionRequest<'_>) -> bool
     }
 }
 
-// A longrun that a line would move.
+// Returns a longrun that a line would move.
 fn moved_by(
     alloc: Global,
     session: &mut Session,
@@ -143,7 +143,7 @@ fn moved_by(
     }
 }
 
-// A longrun that a command would move.
+// Returns a longrun that a command would move.
 fn moved_longrun(
     alloc: Global,
     session: &mut Session,
@@ -167,7 +167,7 @@ fn moved_longrun(
     }
 }
 
-// A longrun that the run of a command would move.
+// Returns a longrun that the run of a command would move.
 fn begun_longrun(
     alloc: Global,
     session: &mut Session,
@@ -213,7 +213,8 @@ fn begin_run(alloc: Global, session: &mut Session, command: &Command) -> Result<
     }
 }
 
-// A refused command moves nothing. If memory ran out, it is not known what would move.
+// Returns `None`, since a refused command moves nothing. Fails if memory ran out, since then it is
+// not known what would move.
 fn none_by(refusal: Refusal) -> Result<Option<String>, NoMem>
     ensures { IfOk result (λ found. (found ≡ None) × (refusal ≢ Refusal.Memory)) }
 {
@@ -223,7 +224,7 @@ fn none_by(refusal: Refusal) -> Result<Option<String>, NoMem>
     }
 }
 
-// A longrun that a plan moves.
+// Returns a longrun that a plan moves.
 fn longrun_of(alloc: Global, db: &Db, plan: &Plan) -> Result<Option<String>, NoMem>
     requires raise { length plan.now.raise ≡ length db.now.names }
     requires lower { length plan.now.lower ≡ length db.now.names }
@@ -241,7 +242,7 @@ fn longrun_of(alloc: Global, db: &Db, plan: &Plan) -> Result<Option<String>, NoM
     }
 }
 
-// The name of a service.
+// Returns the name of a service.
 fn name_in(alloc: Global, db: &Db, service: u16) -> Result<Option<String>, NoMem>
     requires { service < length db.now.names }
     ensures { IfOk result (λ found. MatchOption found ⊥
@@ -250,7 +251,7 @@ fn name_in(alloc: Global, db: &Db, service: u16) -> Result<Option<String>, NoMem
     Ok(Some(String::from_str(alloc, db.names().name_of(service).text())?))
 }
 
-// The least longrun of a set.
+// Returns the least longrun of a set.
 fn longrun_in(db: &Db, set: &Set) -> Option<u16>
     requires { length set.now ≡ length db.now.names }
     ensures member { IfSome result (λ s. Has set.now s × IsKind db.now s Longrun) }
@@ -265,7 +266,7 @@ fn longrun_in(db: &Db, set: &Set) -> Option<u16>
     None
 }
 
-// Whether a service is a longrun.
+// Returns true if a service is a longrun.
 fn is_longrun(db: &Db, service: u16) -> bool
     requires { service < length db.now.names }
     ensures { IsTrue result ↔ IsKind db.now service Longrun }

@@ -96,7 +96,7 @@ impl From<ScriptFault> for Fault {
     }
 }
 
-/// The fault of a name that nothing has.
+/// Creates the fault of a name that nothing has.
 pub(crate) fn unknown_name(alloc: Global, name: &[u8]) -> Fault
     ensures { IsFromName name.now result }
 {
@@ -123,7 +123,7 @@ pub(crate) fn print_fault<F: Write>(alloc: Global, faults: &mut F, fault: &Fault
     }
 }
 
-/// The words that are printed for a fault.
+/// Returns the words that are printed for a fault.
 fn fault_word(alloc: Global, fault: &Fault) -> Result<Vec<u8>, NoMem>
     ensures { IfOk result (λ word. word.items ≡ fault_word fault.now) }
 {
@@ -142,7 +142,7 @@ fn fault_word(alloc: Global, fault: &Fault) -> Result<Vec<u8>, NoMem>
     }
 }
 
-/// The exit status of a fault.
+/// Returns the exit status of a fault.
 fn fault_status(fault: &Fault) -> u8
     ensures { result ≡ fault_status fault.now }
 {

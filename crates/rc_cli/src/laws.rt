@@ -14,8 +14,8 @@ ghost use Rattle.rc_cli.specs.Steps.{step_ask};
 ghost use Rattle.rc_cli.specs.Updating.{IsUpdate, IsWantedUp, Parts};
 
 /// The first step of an update lowers exactly what is live and does not stay, and moves nothing
-/// else: a service that is neither altered, gone nor to be restarted, and needs nothing that is, is
-/// never moved.
+/// else. A service is never moved if it is neither altered, gone nor to be restarted, and depends
+/// on nothing that is.
 pub fn lowering_spares_the_rest()
     ensures lowers { (old new : Database) (list : List Conversion) (again : Bool) (line : Line)
         (parts : Parts) (plan : PlanSets) →
@@ -30,8 +30,8 @@ pub fn lowering_spares_the_rest()
         (s : ℕ) → Has plan.raise s → ⊥ }
 {}
 
-/// The second step raises what is wanted and goes on, with all that it needs, so far as it did
-/// not stay live, and moves nothing else.
+/// The second step of an update raises what is wanted and goes on, with all its dependencies,
+/// except what stayed live. It moves nothing else.
 pub fn raising_spares_the_rest()
     ensures raises { (old new : Database) (list : List Conversion) (again : Bool) (line : Line)
         (parts : Parts) (plan : PlanSets) →
@@ -46,8 +46,8 @@ pub fn raising_spares_the_rest()
         (s : ℕ) → Has plan.lower s → ⊥ }
 {}
 
-/// The second step of a restart raises exactly what went down in the first one, whatever did not go
-/// down, and moves nothing else.
+/// The second step of a restart raises exactly what went down in the first one, even if other
+/// services did not go down. It moves nothing else.
 pub fn restarts_raise_what_went_down()
     ensures raises { (d : Database) (before : List Bool) (here : Line) (names : List (List ℕ))
         (plan : PlanSets) →

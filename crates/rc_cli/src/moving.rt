@@ -12,8 +12,8 @@ use rc_set::{NoMem, Set};
 use rc_update::{Conversion, Update, carry};
 use std::alloc::Global;
 
-/// What an update moves, by what is live in a session of the old database. One that was begun
-/// before, and was cut short in its first step, also raises what that step has lowered.
+/// Returns what an update moves, by what is live in a session of the old database. If the update
+/// was begun before and was cut short in its first step, it also raises what that step has lowered.
 pub(crate) fn update_of(
     alloc: Global,
     from: &Session,
@@ -39,7 +39,7 @@ pub(crate) fn update_of(
     Ok(Update { lower, kept, raise })
 }
 
-// The names that an update raises which was begun before.
+// Returns the names that an update raises if it was begun before.
 fn raise_of(
     alloc: Global,
     from: &Session,
@@ -60,7 +60,7 @@ fn raise_of(
     Ok(raise)
 }
 
-// What is live, and what was in the state before.
+// Returns the set of what is live and what was live in the state before.
 fn wanted_up(alloc: Global, from: &Session) -> Result<Set, NoMem>
     requires { from.now.begun ≡ false }
     ensures bound { IfOk result (λ up. length up ≡ length from.now.database.names) }

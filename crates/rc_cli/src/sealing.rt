@@ -25,9 +25,9 @@ use std::alloc::Global;
 use std::io::Write;
 
 /// Forgets the history around the current state of the session that stood in its file, and returns
-/// the status: 0 where that is done, 1 where it is refused, 111 for a failure.
+/// the exit status: 0 if that is done, 1 if it is refused, 111 for a failure.
 ///
-/// The file then holds the text of a line of one state: what is live, the bundles, and the bound
+/// The file then holds the text of a line of one state. What is live, the bundles, and the bound
 /// are as they were, and there is nothing to undo or redo. `live` is what stood in the file.
 /// Nothing is read. The writer must not have failed before.
 pub fn seal_as_asked<R, W: Write, F: Write, S: Store>(
@@ -51,7 +51,7 @@ pub fn seal_as_asked<R, W: Write, F: Write, S: Store>(
     tell_ended(alloc, &mut devices.faults, ended)
 }
 
-// The same by the text of the database.
+// Forgets the history around the current state of a session, on the database of a text.
 fn seal_text<'a, W: Write, S: Store>(
     alloc: Global,
     request: &SessionRequest<'_>,
@@ -71,7 +71,7 @@ fn seal_text<'a, W: Write, S: Store>(
     }
 }
 
-// The same on the database.
+// Forgets the history around the current state of a session, on a database.
 fn seal_on<'a, W: Write, S: Store>(
     alloc: Global,
     request: &SessionRequest<'_>,
@@ -97,7 +97,7 @@ fn seal_on<'a, W: Write, S: Store>(
     }
 }
 
-// The session of a database whose line has the current state alone of the line in its file.
+// Creates a session of a database that has only the current state of the line in its file.
 fn sealed_session<'a>(
     alloc: Global,
     db: Db,
@@ -121,7 +121,7 @@ fn sealed_session<'a>(
     }
 }
 
-// The same of the line of a text.
+// Creates a session of a database that has only the current state of the line in a text.
 fn sealed_text<'a>(alloc: Global, db: Db, bytes: &[u8]) -> Result<Session, SessionFault<'a>>
     ensures sealed { IfOk result (λ session. (start : States)
         × IsLineOf db start × Spells db bytes.now start
@@ -146,7 +146,7 @@ fn sealed_text<'a>(alloc: Global, db: Db, bytes: &[u8]) -> Result<Session, Sessi
     }
 }
 
-// A session that goes on with a line.
+// Creates a session that goes on with a line.
 fn resumed(db: Db, line: Line) -> Session
     requires closed { line.is_open ≡ false }
     requires states { All (IsStateOf db) (states line.line) }
@@ -158,7 +158,7 @@ fn resumed(db: Db, line: Line) -> Session
     }
 }
 
-// A line of the current state alone, under the same bound.
+// Creates a line of the current state alone, under the same bound.
 fn current_of(alloc: Global, line: &Line) -> Result<Line, NoMem>
     requires line { IsLine line.now.line }
     ensures { IfOk result (λ current. current ≡ record {

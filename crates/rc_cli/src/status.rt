@@ -40,7 +40,7 @@ pub enum Shown {
     Up,
     /// One that was named is not.
     NotUp,
-    /// A name is none.
+    /// A name is unknown.
     Refused,
 }
 
@@ -51,11 +51,12 @@ struct StatusAnswer {
     text: Vec<u8>,
 }
 
-/// Prints where services stand, and returns the status: 0; 3 where one that was named is not up; 1
-/// where a name is none, or a text is refused; 111 for a failure.
+/// Prints where services stand, and returns the exit status: 0; 3 if a named service is not up; 1
+/// if a name is unknown or a text is refused; 111 for a failure.
 ///
-/// `live` is what stood in the file of the session, and `log` in its run log, read before it: so a
-/// log of the command that has ended since is one of another text, and says nothing.
+/// `live` is what stood in the file of the session, and `log` is what stood in its run log. The log
+/// was read first, so the log of a command that has ended since belongs to another text, and says
+/// nothing.
 pub fn status_as_asked<R, W: Write, F: Write, S>(
     alloc: Global,
     request: &NamedRequest<'_>,
@@ -89,7 +90,7 @@ pub fn status_as_asked<R, W: Write, F: Write, S>(
     }
 }
 
-// The status of how it ends.
+// Returns the exit status of an ending.
 fn status_of(ending: Shown) -> u8
     ensures { result ≡ status_of ending }
 {
@@ -100,7 +101,7 @@ fn status_of(ending: Shown) -> u8
     }
 }
 
-// The answer by the text of the database.
+// Returns the answer by the text of the database.
 fn text_answer<'a>(
     alloc: Global,
     request: &NamedRequest<'_>,
@@ -129,7 +130,7 @@ fn text_answer<'a>(
     }
 }
 
-// What stood in the file that is named. Where none is, nothing did.
+// Returns what stood in the named file, or `Missing` if no file is named.
 fn file_named<'a>(request: &SessionRequest<'_>, live: LiveFile<'a>) -> LiveFile<'a>
     ensures { result ≡ file_named (session_ask_of request.now).live live.entry }
 {
@@ -139,7 +140,7 @@ fn file_named<'a>(request: &SessionRequest<'_>, live: LiveFile<'a>) -> LiveFile<
     }
 }
 
-// The answer from where a session stands, and what its run log says.
+// Returns the answer from where a session stands and from what its run log says.
 fn session_answer(
     alloc: Global,
     session: &Session,
@@ -157,7 +158,7 @@ fn session_answer(
     answer
 }
 
-// What the run log beside a file says.
+// Returns the events that the run log beside a file states.
 fn events_of(alloc: Global, db: &Db, live: LiveFile<'_>, log: &[u8]) -> Result<Vec<Event>, NoMem>
     ensures { IfOk result (λ events. AreOfFile db.now live.entry log.now events.items) }
 {
@@ -167,7 +168,7 @@ fn events_of(alloc: Global, db: &Db, live: LiveFile<'_>, log: &[u8]) -> Result<V
     }
 }
 
-// The answer from where a session stands, after these events.
+// Returns the answer from where a session stands after the given events.
 fn answer_after(
     alloc: Global,
     session: &Session,
@@ -199,7 +200,7 @@ fn answer_after(
     }
 }
 
-// The answer about all services.
+// Returns the answer about all services.
 fn all_answer(alloc: Global, db: &Db, live: &Set, events: &[Event]) -> Result<StatusAnswer, NoMem>
     requires live { length live.now ≡ length db.now.names }
     ensures { IfOk result (λ answer. (answer.ending ≡ Shown.Up) × IsTextOf db.now live.now
@@ -214,7 +215,7 @@ fn all_answer(alloc: Global, db: &Db, live: &Set, events: &[Event]) -> Result<St
     })
 }
 
-// The answer about the wanted.
+// Returns the answer about the wanted services.
 fn wanted_answer(
     alloc: Global,
     db: &Db,
@@ -233,7 +234,7 @@ fn wanted_answer(
     Ok(StatusAnswer { ending, text })
 }
 
-// All services.
+// Returns the set of all services.
 fn all_of(alloc: Global, names: &Names) -> Result<Set, NoMem>
     ensures bound { IfOk result (λ all. length all ≡ length names.now) }
     ensures members { IfOk result (λ all. Holds all (λ s. s < length names.now)) }
@@ -245,7 +246,7 @@ fn all_of(alloc: Global, names: &Names) -> Result<Set, NoMem>
     Ok(all)
 }
 
-// How it ends where services were named.
+// Returns the ending of an answer about the wanted services.
 fn ending_of(live: &Set, wanted: &Set, events: &[Event]) -> Shown
     requires { length live.now ≡ length wanted.now }
     ensures { IsUpAs result wanted.now live.now events.now }
@@ -258,7 +259,7 @@ fn ending_of(live: &Set, wanted: &Set, events: &[Event]) -> Shown
     Shown::Up
 }
 
-// Whether a service is up, and no transition of it failed.
+// Returns true if a service is up and no transition of it failed.
 fn is_up(live: bool, events: &[Event], s: u16) -> bool
     ensures { IsTrue result ↔ (standing_word (list_any (fails s) events.now)
         (standing_after live events.now s) ≡ codes "up") }
@@ -266,7 +267,7 @@ fn is_up(live: bool, events: &[Event], s: u16) -> bool
     word_of(live, events, s) == b"up".as_slice()
 }
 
-// The lines of the wanted.
+// Returns the lines of the wanted services.
 fn lines_of(
     alloc: Global,
     names: &Names,
@@ -286,7 +287,7 @@ fn lines_of(
     Ok(text)
 }
 
-// Appends the line of a service, where it is wanted.
+// Appends the line of a service, if it is wanted.
 fn add_service(
     text: &mut Vec<u8>,
     names: &Names,
@@ -319,7 +320,7 @@ fn add_line(text: &mut Vec<u8>, name: &[u8], word: &[u8]) -> Result<(), NoMem>
     Ok(())
 }
 
-// The word for a service that was live or not before these events.
+// Returns the word for a service after the given events. `live` is true if it was live before them.
 fn word_of(live: bool, events: &[Event], s: u16) -> &'static [u8]
     ensures { result.now ≡ standing_word (list_any (fails s) events.now)
         (standing_after live events.now s) }
@@ -327,14 +328,14 @@ fn word_of(live: bool, events: &[Event], s: u16) -> &'static [u8]
     standing_word(has_failed(events, s), standing_after(live, events, s))
 }
 
-// Whether a transition of a service failed in these events.
+// Returns true if a transition of a service failed in the given events.
 fn has_failed(events: &[Event], s: u16) -> bool
     ensures { result ≡ list_any (fails s) events.now }
 {
     events.iter().any(|event| fails(s, *event))
 }
 
-// The word for a service of which a transition failed or not, and that stands so.
+// Returns the word for where a service stands, or `failed` if a transition of it failed.
 fn standing_word(failed: bool, standing: Standing) -> &'static [u8]
     ensures { result.now ≡ standing_word failed standing }
 {
@@ -347,7 +348,7 @@ fn standing_word(failed: bool, standing: Standing) -> &'static [u8]
     }
 }
 
-// Whether an event says that a transition of this service has failed.
+// Returns true if an event says that a transition of the service has failed.
 fn fails(s: u16, event: Event) -> bool
     ensures { result ≡ fails s event }
 {
@@ -357,7 +358,7 @@ fn fails(s: u16, event: Event) -> bool
     }
 }
 
-// Where a service stands after these events.
+// Returns the standing of a service after the given events.
 fn standing_after(live: bool, events: &[Event], s: u16) -> Standing
     ensures { result ≡ standing_after live events.now s }
 {
@@ -368,7 +369,7 @@ fn standing_after(live: bool, events: &[Event], s: u16) -> Standing
     standing
 }
 
-// Where a service stands after one event more.
+// Returns the standing of a service after one more event.
 fn after_event(s: u16, standing: Standing, event: Event) -> Standing
     ensures { result ≡ after_event s standing event }
 {
@@ -379,7 +380,7 @@ fn after_event(s: u16, standing: Standing, event: Event) -> Standing
     }
 }
 
-// Where a service stands once it is taken.
+// Returns the standing of a service once it is taken.
 fn after_take(standing: Standing) -> Standing
     ensures { result ≡ after_take standing }
 {
@@ -390,7 +391,7 @@ fn after_take(standing: Standing) -> Standing
     }
 }
 
-// Where a service stands once its transition has ended, with success or without.
+// Returns the standing of a service once its transition has ended, with success or without.
 fn after_end(well: bool, standing: Standing) -> Standing
     ensures { result ≡ after_end well standing }
 {

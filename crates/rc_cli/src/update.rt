@@ -17,16 +17,16 @@ use std::sync::Wait;
 use std::thread::Threads;
 
 /// Carries what is live over from the database of the text `old` to that of the text `new`, and
-/// returns the status: 0 where all is done, or shown; 1 where it is refused, and nothing has moved;
-/// 2 where it was carried out, and something failed, was blocked or was not tried; 111 for a
-/// failure.
+/// returns the exit status: 0 if all is done or shown; 1 if it is refused, and nothing has moved; 2
+/// if it was carried out, and something failed, was blocked or was not tried; 111 for a failure.
 ///
 /// Two lines are served, and their answers are written. The first one lowers, by the old database,
-/// what is altered or gone, with all that needs it. Where all of it is done the second one is
-/// served on a session of the new database, whose line has one state, in which those are live that
-/// were live and were not lowered: it raises what was live and is still there. The file of `-l` is
-/// kept as by sessions of these lines, so it has the text of the new database once the first one is
-/// done, and not before. Where they are only shown, nothing is moved and nothing is kept.
+/// what is altered or gone, with all that needs it. If all of it is done, the second one is served
+/// on a session of the new database. The line of that session has one state, in which the services
+/// are live that were live and were not lowered. The second one raises what was live and is still
+/// there. The file of `-l` is kept as by sessions of these lines, so it has the text of the new
+/// database once the first one is done, and not before. If the lines are only shown, nothing is
+/// moved and nothing is kept.
 ///
 /// `live` is what stood in that file. Nothing is read. The writer must not have failed before.
 pub fn update_as_asked<T: Threads + Wait + Sync, R, W: Write, F: Write, S: Store, L: Log + Sync>(
@@ -51,7 +51,7 @@ pub fn update_as_asked<T: Threads + Wait + Sync, R, W: Write, F: Write, S: Store
     tell_ended(host.alloc, &mut devices.faults, ended)
 }
 
-// Carries it out on the databases of the texts.
+// Carries out an update from the database of one text to that of another.
 fn updated<'a, T: Threads + Wait + Sync, W: Write, S: Store, L: Log + Sync>(
     host: &Host<'_, T, L>,
     request: &UpdateRequest<'a>,

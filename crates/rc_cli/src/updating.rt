@@ -65,8 +65,8 @@ pub(crate) struct Ahead {
     pub raising: SessionLine,
 }
 
-/// Carries what is live over from a database to another: past the gates of both steps, from where
-/// the session of the old database begins. Programs are started by `host`.
+/// Carries what is live over from one database to another, through the gates of both steps. It
+/// starts from where the session of the old database begins. `host` starts the programs.
 pub(crate) fn update_on<'a, T: Threads + Wait + Sync, W: Write, S: Store, L: Log + Sync>(
     host: &Host<'_, T, L>,
     request: &UpdateRequest<'a>,
@@ -118,7 +118,7 @@ pub(crate) fn update_on<'a, T: Threads + Wait + Sync, W: Write, S: Store, L: Log
     }
 }
 
-/// The first name of a conversion that its database lacks.
+/// Returns the first name of a conversion that its database lacks.
 pub(crate) fn stranger<'a>(request: &UpdateRequest<'a>, old: &Db, new: &Db) -> Option<&'a [u8]>
     ensures { MatchOption result (AreKnown old.now.names new.now.names
         (conversions_of request.now.conversions.items))
@@ -128,8 +128,8 @@ pub(crate) fn stranger<'a>(request: &UpdateRequest<'a>, old: &Db, new: &Db) -> O
     first_unknown(request.conversions.as_slice(), old.names(), new.names())
 }
 
-// The gates of both steps. Transitions that are listed as failing on the way down are of the old
-// database, and those on the way up of the new one.
+// Creates the gates of both steps. Transitions that are listed as failing belong to the old
+// database on the way down, and to the new one on the way up.
 fn gates_of<'h, 'a, T, L: Log + Sync>(
     host: &Host<'h, T, L>,
     old: &Db,
@@ -154,7 +154,7 @@ fn gates_of<'h, 'a, T, L: Log + Sync>(
     }
 }
 
-// The gate of one step.
+// Creates the gate of one step.
 fn gate_on<'h, 'a, T, L: Log + Sync>(
     host: &Host<'h, T, L>,
     db: &Db,
@@ -180,7 +180,7 @@ fn gate_on<'h, 'a, T, L: Log + Sync>(
     }
 }
 
-// Those of one way.
+// Returns the listed transitions of one way.
 fn failing_on<'a>(
     alloc: Global,
     failing: &[Transition<'a>],
@@ -196,7 +196,7 @@ fn failing_on<'a>(
     Ok(those)
 }
 
-// Appends a transition to others, if it is of this way.
+// Appends a transition to others, if it goes the given way.
 fn push_on<'a>(
     those: &mut Vec<Transition<'a>>,
     one: Transition<'a>,
@@ -212,8 +212,8 @@ fn push_on<'a>(
     Ok(())
 }
 
-// What is ahead of an update from where the session of the old database stands, if neither step
-// moves a longrun that no program controls.
+// Returns what is ahead of an update from where the session of the old database stands. Fails if
+// either step moves a longrun that no program controls.
 fn ahead_controlled<'a>(
     alloc: Global,
     request: &UpdateRequest<'_>,
@@ -243,7 +243,7 @@ fn ahead_controlled<'a>(
     }
 }
 
-// What is ahead of an update from there.
+// Returns what is ahead of an update from where the session of the old database stands.
 fn ahead_of(
     alloc: Global,
     request: &UpdateRequest<'_>,
@@ -279,7 +279,7 @@ fn ahead_of(
     }
 }
 
-/// The session of a database whose line has one state, in which these services are live.
+/// Creates a session of a database whose line has one state, in which the given services are live.
 pub(crate) fn session_of(alloc: Global, db: Db, live: Set, bound: u32) -> Result<Session, NoMem>
     requires length { length live ≡ length db.names }
     requires closed { IsClosed db.needs (Has live) }
@@ -293,7 +293,7 @@ pub(crate) fn session_of(alloc: Global, db: Db, live: Set, bound: u32) -> Result
     Session::resume(db, Line::with_bound(alloc, live, table, bound))
 }
 
-// Serves the line of the first step and, where all of it is done, that of the second one.
+// Serves the line of the first step and, if all of it is done, that of the second one.
 fn serve_both<T: Threads + Wait + Sync, W: Write, G: Gate, S: Store, L>(
     host: &Host<'_, T, L>,
     request: &SessionRequest<'_>,
@@ -327,7 +327,7 @@ fn serve_both<T: Threads + Wait + Sync, W: Write, G: Gate, S: Store, L>(
     }
 }
 
-// What an update comes to whose first step is done.
+// Returns the ending of an update whose first step is done, by the result of its second step.
 fn behind(raised: Result<Ending, ServeFault>) -> Result<Ending, ServeFault>
     ensures { result ≡ ended_by ending_behind raised }
 {

@@ -29,11 +29,11 @@ pub(crate) struct Book {
     pub(crate) longruns: Set,
     // For each service the one that it writes to.
     pub(crate) feeds: Vec<Vec<u16>>,
-    // The services that the one that they write to reads from.
+    // The services that write to one that also reads from them.
     pub(crate) matched: Set,
 }
 
-// The tables and lists of definitions.
+// Creates the tables and lists of definitions. Fails if there are too many names.
 #[tactic(auto, unfolding(crate::specs::CompileFaults::AreFreeBefore, crate::specs::CompileFaults::IsCompileFault))]
 pub(crate) fn book_of(alloc: Global, definitions: &[Definition]) -> Result<Book, CompileFault>
     requires { AreMeanings (map meaning_of definitions.now) }
@@ -55,7 +55,7 @@ pub(crate) fn book_of(alloc: Global, definitions: &[Definition]) -> Result<Book,
     Ok(filled(alloc, definitions, services, bundles)?)
 }
 
-// What is looked up, beside the tables of names.
+// Creates a book from its tables of names, and fills in its lists.
 fn filled(
     alloc: Global,
     definitions: &[Definition],
@@ -87,7 +87,7 @@ fn filled(
 // What a book lists beside the tables of names, in its order.
 type Lists = (Set, Set, Vec<Vec<u16>>, Set);
 
-// The lists of a book with these tables of names.
+// Creates the lists of a book with the given tables of names.
 fn listed(
     alloc: Global,
     definitions: &[Definition],

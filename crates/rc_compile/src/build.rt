@@ -19,7 +19,7 @@ use rc_graph::Graph;
 use rc_source::Definition;
 use std::alloc::Global;
 
-// The database, unless services need one another in a circle.
+// Builds the database. Fails if services need one another in a circle.
 #[tactic(auto, unfolding(crate::specs::CompileFaults::IsCompileFault))]
 pub(crate) fn build(
     alloc: Global,

@@ -24,8 +24,8 @@ use rc_set::{NoMem, Set};
 use rc_source::Definition;
 use std::alloc::{AllocError, Global};
 
-// The database of definitions whose pipes are right: the graph says what each service needs, and
-// the sets what the names of bundles stand for.
+// Creates the database of definitions whose pipes are right. The graph says what each service
+// needs, and the sets say what the names of bundles stand for.
 pub(crate) fn joined(
     alloc: Global,
     definitions: &[Definition],
@@ -66,7 +66,7 @@ pub(crate) fn joined(
     Ok(join(definitions, names, services, graph, table))
 }
 
-// What the definitions say of each service of a table.
+// Returns each service of a table, as the definitions describe it.
 fn described(
     alloc: Global,
     definitions: &[Definition],

@@ -1,4 +1,5 @@
-// What each entry is tested for: the flaws, their order, the tests, and the faults that tell them.
+// What each entry is tested for: the flaws, their order, the tests, and the faults that report
+// them.
 ghost use Rattle.std.specs.Prelude.{◌≡◌, ◌↔◌, map, Contains, IsTrue};
 ghost use Rattle.rc_source.specs.Meaning.{AreMeanings};
 ghost use Rattle.rc_source.specs.Said.{meaning_of};
@@ -11,7 +12,8 @@ use crate::pipes::{has_taken_name, is_unmatched, joins_other};
 use rc_names::Name;
 use rc_source::Definition;
 
-// What is wrong with an entry. The first in this order is told, of the least entry that has it.
+// What is wrong with an entry. The first flaw in this order is reported, for the least entry that
+// has it.
 #[derive(Clone, Copy)]
 pub(crate) enum EntryFlaw {
     PipelineType,
@@ -20,7 +22,7 @@ pub(crate) enum EntryFlaw {
 }
 
 impl EntryFlaw {
-    // The fault that tells the flaw of an entry.
+    // Returns the fault that reports the flaw of an entry.
     pub(crate) fn of(self, entry: Name) -> CompileFault
         ensures { result ≡ entry_fault self entry }
     {
@@ -32,7 +34,7 @@ impl EntryFlaw {
     }
 }
 
-// The flaws in the order of their tests.
+// Returns the flaws in the order of their tests.
 pub(crate) fn entry_flaws() -> &'static [EntryFlaw]
     ensures { result.now ≡ entry_flaws }
 {
@@ -43,7 +45,7 @@ pub(crate) fn entry_flaws() -> &'static [EntryFlaw]
     ]
 }
 
-// Whether an entry has a flaw.
+// Returns true if an entry has a flaw.
 pub(crate) fn has_flaw(
     definitions: &[Definition],
     book: &Book,

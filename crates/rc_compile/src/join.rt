@@ -18,8 +18,8 @@ use rc_graph::Graph;
 use rc_names::Names;
 use rc_source::Definition;
 
-// The database of names, services, needs and bundles, which fit together. The definitions only say
-// what these are.
+// Creates the database of names, services, needs and bundles, which fit together. The definitions
+// only say what these are.
 pub(crate) fn join(
     definitions: &[Definition],
     names: Names,

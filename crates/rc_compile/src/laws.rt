@@ -11,13 +11,14 @@ ghost use Rattle.rc_compile.specs.Standing.{HoldsName, StandsFor, NeedsNamed};
 ghost use Rattle.rc_compile.specs.Compiled.{IsDatabaseOf};
 ghost use Rattle.rc_compile.specs.CompileFaults.{HaveNoFlaw, IsCompileFault};
 
-/// Definitions without a flaw are refused as out of memory alone.
+/// Definitions without a flaw are refused only if memory runs out.
 pub fn what_compiles_is_not_refused()
     ensures { (ms : List Meaning) (fault : CompileFault) → HaveNoFlaw ms → IsCompileFault ms fault →
         fault ≡ CompileFault.Memory }
 {}
 
-/// A bundle stands for what the bundles in it stand for, and a need on it is a need on all of that.
+/// A bundle stands for what the bundles in it stand for. A service that needs a bundle needs all of
+/// that.
 pub fn needs_go_through_bundles()
     ensures bundles { (ms : List Meaning) (name inner s : List ℕ) → HoldsName ms name inner →
         StandsFor ms inner s → StandsFor ms name s }
@@ -26,7 +27,7 @@ pub fn needs_go_through_bundles()
         NeedsNamed ms s t }
 {}
 
-/// What writes to a service of a pipeline is in the pipeline too.
+/// A longrun that writes to a service of a pipeline is in the pipeline too.
 pub fn pipelines_reach_back()
     ensures { (ms : List Meaning) (s p q : List ℕ) → IsLongrun ms p → WritesTo ms p q →
         InPipelineOf ms s q → InPipelineOf ms s p }
@@ -38,7 +39,7 @@ pub fn compiled_definitions_have_no_cycle()
         IsDatabase d → IsShownCycle (NeedsNamed ms) names → ⊥ }
 {}
 
-/// Definitions have one database at most.
+/// Definitions have at most one database.
 pub fn databases_of_definitions_are_one()
     ensures { (ms : List Meaning) (d e : Database) → IsDatabase d → IsDatabase e →
         IsDatabaseOf ms d → IsDatabaseOf ms e → d ≡ e }

@@ -7,7 +7,7 @@ use rc_names::Name;
 use rc_set::NoMem;
 use std::alloc::Global;
 
-// The least of some names, if there are any.
+// Returns the least of some names, if there are any.
 pub(crate) fn least(alloc: Global, names: &[Name]) -> Result<Option<Name>, NoMem>
     ensures some { IfOk result (λ least. IfSome least (IsLeast (Contains names.now))) }
     ensures none { IfOk result (λ least. IfNone least (names.now ≡ [])) }
@@ -19,7 +19,7 @@ pub(crate) fn least(alloc: Global, names: &[Name]) -> Result<Option<Name>, NoMem
     Ok(Some(names[place].copy(alloc)?))
 }
 
-// The place of the least of some names.
+// Returns the place of the least of some names.
 fn least_place(names: &[Name]) -> usize
     requires { 0 < length names.now }
     ensures within { result < length names.now }

@@ -37,7 +37,8 @@ use std::alloc::{AllocError, Global};
 use std::fmt;
 use thiserror::Error;
 
-/// Why definitions make no database. The first in this order is told, of the least entry.
+/// Why definitions make no database. The first fault in this order is reported, for the least entry
+/// that has it.
 #[derive(Debug, Drop, Error)]
 pub enum CompileFault {
     /// There are more than 4,096 services, or more than 4,096 names of bundles and pipelines.
@@ -46,7 +47,8 @@ pub enum CompileFault {
     UnknownIn(Name, Name),
     /// Bundles hold one another in a circle, which begins with its least name.
     BundleCycle(Vec<Name>),
-    /// The service writes to or reads from what is no longrun, or is none itself.
+    /// The service writes to or reads from something that is not a longrun, or is not a longrun
+    /// itself.
     PipelineType(Name),
     /// The service names a neighbour in a pipe that does not name it.
     PipelineMismatch(Name),
@@ -58,7 +60,7 @@ pub enum CompileFault {
     Memory,
 }
 
-// What is told of a fault.
+// Returns the message of a fault.
 fn told_of(fault: &CompileFault) -> &'static str {
     match fault {
         CompileFault::TooMany => "too many names",
@@ -88,7 +90,7 @@ impl From<AllocError> for CompileFault {
     }
 }
 
-/// The database of definitions, as `read_all` gives them or a caller writes them.
+/// Compiles definitions to a database. They are given by `read_all` or written by a caller.
 #[tactic(auto, unfolding(crate::specs::CompileFaults::AreFreeBefore))]
 pub fn compile(alloc: Global, definitions: &[Definition]) -> Result<Db, CompileFault>
     requires { AreMeanings (map meaning_of definitions.now) }

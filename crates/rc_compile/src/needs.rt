@@ -22,7 +22,7 @@ use rc_set::{NoMem, Set};
 use rc_source::Definition;
 use std::alloc::Global;
 
-// Says that a service needs each of the sets of a list.
+// Records that a service needs each member of the sets in a list.
 fn need_sets(
     alloc: Global,
     draft: &mut Draft,
@@ -45,7 +45,7 @@ fn need_sets(
     Ok(())
 }
 
-// Says that services need those in the sets of the bundles in their lists.
+// Records that services need the members of the sets of the bundles in their lists.
 pub(crate) fn need_bundles(
     alloc: Global,
     draft: &mut Draft,
@@ -66,7 +66,7 @@ pub(crate) fn need_bundles(
     Ok(())
 }
 
-// Says that services need those for which the bundles among their dependencies stand.
+// Records that services need what the bundles among their dependencies stand for.
 fn need_in_bundles(
     alloc: Global,
     draft: &mut Draft,
@@ -90,7 +90,7 @@ fn need_in_bundles(
     need_bundles(alloc, draft, &lists, sets)
 }
 
-// The needs of services, as their names have them.
+// Returns the needs of services, as the definitions give them by name.
 fn needs_of(
     alloc: Global,
     definitions: &[Definition],
@@ -123,7 +123,7 @@ fn needs_of(
     Ok(draft)
 }
 
-// The graph of services, or a cycle of them.
+// Returns the graph of services. Fails with a cycle of services if there is one.
 pub(crate) fn graph_of(
     alloc: Global,
     definitions: &[Definition],

@@ -17,7 +17,7 @@ use rc_set::{NoMem, Set};
 use rc_source::Definition;
 use std::alloc::Global;
 
-// The services that are longruns.
+// Returns the services that are longruns.
 pub(crate) fn longruns_of(
     alloc: Global,
     definitions: &[Definition],
@@ -35,7 +35,7 @@ pub(crate) fn longruns_of(
     Ok(longruns)
 }
 
-// Puts the place of a definition in, if it is a longrun.
+// Adds the place of a definition, if it is a longrun.
 fn insert_longrun(set: &mut Set, services: &Names, definition: &Definition)
     requires { length set.old ≡ length services.now }
     ensures bound { length set.new ≡ length set.old }
@@ -47,7 +47,7 @@ fn insert_longrun(set: &mut Set, services: &Names, definition: &Definition)
     }
 }
 
-// Puts the place of a name in, if the table has the name.
+// Adds the place of a name, if the table has the name.
 fn insert_named(set: &mut Set, names: &Names, text: &str)
     requires { length set.old ≡ length names.now }
     ensures bound { length set.new ≡ length set.old }
@@ -59,7 +59,7 @@ fn insert_named(set: &mut Set, names: &Names, text: &str)
     }
 }
 
-// Whether a name is that of a member of a set of places.
+// Returns true if a name is that of a member of a set of places.
 fn has_named(names: &Names, set: &Set, text: &str) -> bool
     requires { length set.now ≡ length names.now }
     ensures { IsTrue result ↔ HasNamed names.now set.now text.now }
@@ -71,14 +71,14 @@ fn has_named(names: &Names, set: &Set, text: &str) -> bool
     }
 }
 
-// Whether two kinds are one.
+// Returns true if two kinds are the same.
 fn is_kind(kind: Kind, wanted: Kind) -> bool
     ensures { IsTrue result ↔ (kind ≡ wanted) }
 {
     kind == wanted
 }
 
-// Whether a service and its neighbour in a pipe are longruns.
+// Returns true if a service and its neighbour in a pipe are longruns.
 fn can_join(names: &Names, longruns: &Set, is_longrun: bool, text: &str) -> bool
     requires { length longruns.now ≡ length names.now }
     ensures { IsTrue result ↔ (IsTrue is_longrun × HasNamed names.now longruns.now text.now) }
@@ -86,7 +86,7 @@ fn can_join(names: &Names, longruns: &Set, is_longrun: bool, text: &str) -> bool
     is_longrun && has_named(names, longruns, text)
 }
 
-// Whether some neighbour can't be joined.
+// Returns true if some neighbour can't be joined.
 fn some_unjoined(names: &Names, longruns: &Set, is_longrun: bool, texts: &[Name]) -> bool
     requires { length longruns.now ≡ length names.now }
     ensures { IsTrue result ↔ ((text : List ℕ) × Contains texts.now text
@@ -100,7 +100,7 @@ fn some_unjoined(names: &Names, longruns: &Set, is_longrun: bool, texts: &[Name]
     false
 }
 
-// Whether a definition names a neighbour in a pipe, and one of the two is no longrun.
+// Returns true if a definition names a neighbour in a pipe and one of the two is no longrun.
 pub(crate) fn joins_other(names: &Names, longruns: &Set, definition: &Definition) -> bool
     requires { length longruns.now ≡ length names.now }
     ensures { IsTrue result ↔ JoinsOther names.now longruns.now (meaning_of definition.now) }
@@ -115,7 +115,7 @@ pub(crate) fn joins_other(names: &Names, longruns: &Set, definition: &Definition
     }
 }
 
-// Whether two names stand at places of which the first list has the second.
+// Returns true if two names are in the table and the list of the first has the place of the second.
 fn has_pair(names: &Names, lists: &[Vec<u16>], from: &Name, to: &Name) -> bool
     requires { length lists.now ≡ length names.now }
     ensures { IsTrue result ↔ HasPair names.now (rows lists.now) from.now to.now }
@@ -130,7 +130,7 @@ fn has_pair(names: &Names, lists: &[Vec<u16>], from: &Name, to: &Name) -> bool
     lists[from as usize].contains(&to)
 }
 
-// Whether some name is not in a pair with another.
+// Returns true if some name is not paired with another.
 fn some_unpaired(names: &Names, lists: &[Vec<u16>], from: &[Name], to: &Name) -> bool
     requires { length lists.now ≡ length names.now }
     ensures { IsTrue result ↔ ((name : List ℕ) × Contains from.now name
@@ -144,7 +144,8 @@ fn some_unpaired(names: &Names, lists: &[Vec<u16>], from: &[Name], to: &Name) ->
     false
 }
 
-// Whether a definition names a neighbour in a pipe that does not name it from the other side.
+// Returns true if a definition names a neighbour in a pipe that does not name it from the other
+// side.
 pub(crate) fn is_unmatched(
     names: &Names,
     feeds: &[Vec<u16>],
@@ -162,7 +163,7 @@ pub(crate) fn is_unmatched(
     definition.producer_for.is_some() && !has_named(names, matched, definition.name.text())
 }
 
-// The services that the one that they write to reads from.
+// Returns the services that write to one that also reads from them.
 pub(crate) fn matched_of(
     alloc: Global,
     definitions: &[Definition],
@@ -182,7 +183,7 @@ pub(crate) fn matched_of(
     Ok(matched)
 }
 
-// Puts those in that a definition reads from and that write to it.
+// Adds the services that a definition reads from and that write to it.
 fn insert_matched(set: &mut Set, names: &Names, feeds: &[Vec<u16>], definition: &Definition)
     requires bound { length set.old ≡ length names.now }
     requires feeds { length feeds.now ≡ length names.now }
@@ -199,7 +200,7 @@ fn insert_matched(set: &mut Set, names: &Names, feeds: &[Vec<u16>], definition: 
     );
 }
 
-// Puts those of some names in that are in a pair with another.
+// Adds those of some names that are paired with another.
 fn insert_paired(set: &mut Set, names: &Names, lists: &[Vec<u16>], from: &[Name], to: &Name)
     requires bound { length set.old ≡ length names.now }
     requires lists { length lists.now ≡ length names.now }
@@ -212,7 +213,7 @@ fn insert_paired(set: &mut Set, names: &Names, lists: &[Vec<u16>], from: &[Name]
     }
 }
 
-// Puts a name in that is in a pair with another.
+// Adds a name if it is paired with another.
 fn insert_if_paired(set: &mut Set, names: &Names, lists: &[Vec<u16>], from: &Name, to: &Name)
     requires bound { length set.old ≡ length names.now }
     requires lists { length lists.now ≡ length names.now }
@@ -226,7 +227,8 @@ fn insert_if_paired(set: &mut Set, names: &Names, lists: &[Vec<u16>], from: &Nam
     }
 }
 
-// Whether the pipeline that ends at a definition has the name of a service, or one that is shared.
+// Returns true if the pipeline that ends at a definition has the name of a service, or a shared
+// name.
 pub(crate) fn has_taken_name(
     services: &Names,
     bundles: &Names,
@@ -243,7 +245,7 @@ pub(crate) fn has_taken_name(
     }
 }
 
-// Whether a name is that of a service or is shared.
+// Returns true if a name is that of a service or is shared.
 fn is_taken(services: &Names, bundles: &Names, shared: &Set, text: &str) -> bool
     requires { length shared.now ≡ length bundles.now }
     ensures { IsTrue result ↔ (Contains services.now text.now
@@ -252,7 +254,7 @@ fn is_taken(services: &Names, bundles: &Names, shared: &Set, text: &str) -> bool
     has_name(services, text) || has_named(bundles, shared, text)
 }
 
-// The bundles whose name two definitions give.
+// Returns the bundles whose name two definitions give.
 pub(crate) fn shared_of(
     alloc: Global,
     definitions: &[Definition],
@@ -273,8 +275,8 @@ pub(crate) fn shared_of(
     Ok(shared)
 }
 
-// Puts the bundle in whose name a definition gives: among those seen, and if
-// it is there among those shared.
+// Adds the bundle whose name a definition gives to those seen. If it is there already, adds it to
+// those shared.
 fn mark(bundles: &Names, seen: &mut Set, shared: &mut Set, definition: &Definition)
     requires seen { length seen.old ≡ length bundles.now }
     requires shared { length shared.old ≡ length bundles.now }
@@ -293,7 +295,7 @@ fn mark(bundles: &Names, seen: &mut Set, shared: &mut Set, definition: &Definiti
     }
 }
 
-// Puts an id in.
+// Adds an id to those seen. If it is there already, adds it to those shared.
 fn mark_id(seen: &mut Set, shared: &mut Set, id: u16)
     requires seen { id < length seen.old }
     requires shared { id < length shared.old }

@@ -1,4 +1,4 @@
-// What is looked for in entries, one by one, and told of the least that has it.
+// What each entry is tested for, one by one. The least entry that fails a test is reported.
 ghost use Rattle.std.specs.Prelude.{◌≡◌, ◌↔◌, ◌⊎◌, ℕ, List, map, Contains, IsTrue, IfOk, IfErr};
 ghost use Rattle.std.specs.Prelude.{IfSome, IfNone, OnOk};
 ghost use Rattle.rc_source.specs.Meaning.{AreMeanings};
@@ -65,7 +65,7 @@ pub(crate) fn test_entries(
     }
 }
 
-// The least entry that has what is sought, if there is one.
+// Returns the least entry that has what is sought, if there is one.
 fn least_sought(
     alloc: Global,
     definitions: &[Definition],
@@ -83,7 +83,7 @@ fn least_sought(
     least(alloc, &names)
 }
 
-// The entries that have what is sought.
+// Returns the entries that have what is sought.
 fn with_sought(
     alloc: Global,
     definitions: &[Definition],
@@ -102,7 +102,7 @@ fn with_sought(
     Ok(names)
 }
 
-// Puts the name of an entry in that has what is sought.
+// Adds the name of an entry if it has what is sought.
 fn add_sought(
     alloc: Global,
     names: &mut Vec<Name>,
@@ -124,7 +124,7 @@ fn add_sought(
     Ok(())
 }
 
-// Whether an entry has what is sought.
+// Returns true if an entry has what is sought.
 fn has_sought(
     alloc: Global,
     definitions: &[Definition],
@@ -144,7 +144,7 @@ fn has_sought(
     }
 }
 
-// Whether an entry has a name that stands for nothing.
+// Returns true if an entry has a name that stands for nothing.
 fn has_unknown(
     alloc: Global,
     definitions: &[Definition],
@@ -161,7 +161,7 @@ fn has_unknown(
     Ok(!unknown.is_empty())
 }
 
-// The least name that stands for nothing in an entry that has one.
+// Returns the least name that stands for nothing in an entry that has one.
 fn least_unknown(
     alloc: Global,
     definitions: &[Definition],

@@ -13,7 +13,7 @@ use rc_set::NoMem;
 use rc_source::Definition;
 use std::alloc::Global;
 
-// For each name of a table, what its definition says of the service.
+// Returns the service of each name of a table, as its definition describes it.
 pub(crate) fn services_of(
     alloc: Global,
     definitions: &[Definition],
@@ -33,7 +33,7 @@ pub(crate) fn services_of(
     Ok(services)
 }
 
-// What the definition at a place says of a service.
+// Returns the service that the definition at a place describes.
 fn service_at(
     alloc: Global,
     definitions: &[Definition],
@@ -50,7 +50,7 @@ fn service_at(
     service_of(alloc, names, &definitions[place])
 }
 
-// What a definition says of a service.
+// Returns the service that a definition describes.
 fn service_of(alloc: Global, names: &Names, definition: &Definition) -> Result<Service, NoMem>
     requires { IfSome (meaning_of definition.now).producer_for (Contains names.now) }
     ensures { IfOk result (IsAsDefined names.now (meaning_of definition.now)) }
@@ -69,7 +69,7 @@ fn service_of(alloc: Global, names: &Names, definition: &Definition) -> Result<S
     })
 }
 
-// The place of the service that a definition writes to.
+// Returns the place of the service that a definition writes to, if it writes to one.
 fn producer_of(names: &Names, definition: &Definition) -> Option<u16>
     requires { IfSome (meaning_of definition.now).producer_for (Contains names.now) }
     ensures { option_map (slice_get names.now) result
@@ -81,7 +81,7 @@ fn producer_of(names: &Names, definition: &Definition) -> Option<u16>
     }
 }
 
-// Another text of the same bytes, if there is one.
+// Returns a copy of a text, if there is one.
 fn copy_text(alloc: Global, text: &Option<String>) -> Result<Option<String>, NoMem>
     ensures { IfOk result (λ copy. option_map string_bytes copy
         ≡ option_map string_bytes text.now) }
@@ -92,7 +92,7 @@ fn copy_text(alloc: Global, text: &Option<String>) -> Result<Option<String>, NoM
     }
 }
 
-// The place of the definition of each name.
+// Returns the place of the definition of each name.
 pub(crate) fn places_of(
     alloc: Global,
     definitions: &[Definition],

@@ -10,7 +10,7 @@ use rc_names::{Name, Names};
 use rc_set::{NoMem, Set};
 use std::alloc::Global;
 
-// The table of names, each with the set at its place.
+// Creates the table of names, each with the set at its place.
 pub(crate) fn table_of(alloc: Global, names: &Names, sets: &[Set]) -> Result<Table, NoMem>
     requires { length sets.now ≡ length names.now }
     ensures names { IfOk result (λ table. names_of table ≡ names.now) }
@@ -32,7 +32,7 @@ pub(crate) fn table_of(alloc: Global, names: &Names, sets: &[Set]) -> Result<Tab
     Ok(table)
 }
 
-// Puts a bundle into a table that has room.
+// Adds a bundle to a table that has room.
 fn put(alloc: Global, table: &mut Table, name: &Name, set: &Set) -> Result<(), NoMem>
     requires { length table.old < 4096 }
     ensures changed { OnOk result (IsChangedAt table.old name.now (Some set.now) table.new) }

@@ -13,14 +13,14 @@ use rc_set::NoMem;
 use rc_source::Definition;
 use std::alloc::Global;
 
-// Whose names are asked for.
+// Whose names are wanted.
 #[derive(Clone, Copy)]
 pub(crate) enum Which {
     Services,
     Bundles,
 }
 
-// The table of the names of services, or of bundles; none where there are too many.
+// Creates the table of the names of services, or of bundles. Returns None if there are too many.
 pub(crate) fn names_of(
     alloc: Global,
     definitions: &[Definition],
@@ -45,7 +45,7 @@ pub(crate) fn names_of(
     Ok(Some(names))
 }
 
-// Puts the name in that a definition gives, and tells whether there was room for it.
+// Adds the name that a definition gives, if it gives one. Returns false if there is no room for it.
 fn add_given(
     alloc: Global,
     names: &mut Names,
@@ -65,7 +65,7 @@ fn add_given(
     }
 }
 
-// The name that a definition gives.
+// Returns the name that a definition gives, if it gives one.
 pub(crate) fn given(definition: &Definition, which: Which) -> Option<&Name>
     ensures some { IfSome result (λ name. Gives which (meaning_of definition.now) name.now) }
     ensures none { IfNone result ((name : List ℕ) → Gives which (meaning_of definition.now) name →
@@ -80,7 +80,7 @@ pub(crate) fn given(definition: &Definition, which: Which) -> Option<&Name>
     }
 }
 
-// Puts a name in, unless it is there, and tells whether there was room for it.
+// Adds a name, unless it is there. Returns false if there is no room for it.
 fn add_name(alloc: Global, names: &mut Names, name: &Name) -> Result<bool, NoMem>
     ensures adds { IfOk result (λ fits. IsTrue fits → Adds names.old name.now names.new) }
     ensures full { IfOk result (λ fits.

@@ -17,8 +17,8 @@ use rc_graph::Graph;
 use rc_source::Definition;
 use std::alloc::Global;
 
-// All tests but those for too many names and for a circle of services. The graph says which bundle
-// holds which.
+// Runs all tests but those for too many names and for a circle of services. Returns the graph of
+// which bundle holds which.
 pub(crate) fn test_all(
     alloc: Global,
     definitions: &[Definition],
@@ -57,7 +57,7 @@ fn test_names(alloc: Global, definitions: &[Definition], book: &Book) -> Result<
     }
 }
 
-// Tests that no entry has a flaw: one flaw after the other.
+// Tests that no entry has a flaw, one flaw after the other.
 fn test_flaws(alloc: Global, definitions: &[Definition], book: &Book) -> Result<(), CompileFault>
     requires meanings { AreMeanings (map meaning_of definitions.now) }
     requires book { IsBook (map meaning_of definitions.now) book.now }

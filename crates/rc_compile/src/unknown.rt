@@ -9,7 +9,7 @@ use rc_set::NoMem;
 use rc_source::Definition;
 use std::alloc::Global;
 
-// The names in a definition that are in neither table.
+// Returns the names in a definition that are in neither table.
 pub(crate) fn unknown_in(
     alloc: Global,
     services: &Names,
@@ -40,7 +40,7 @@ pub(crate) fn unknown_in(
     Ok(unknown)
 }
 
-// Puts the name in that a definition writes to, if it is in neither table.
+// Adds the name that a definition writes to, if it is in neither table.
 fn add_producer(
     alloc: Global,
     unknown: &mut Vec<Name>,
@@ -59,7 +59,7 @@ fn add_producer(
     }
 }
 
-// Puts those names in that are in neither table.
+// Adds those names that are in neither table.
 fn add_unknown(
     alloc: Global,
     unknown: &mut Vec<Name>,
@@ -78,7 +78,7 @@ fn add_unknown(
     Ok(())
 }
 
-// Puts a name in that is in neither table.
+// Adds a name if it is in neither table.
 fn add_if_unknown(
     alloc: Global,
     unknown: &mut Vec<Name>,
@@ -96,7 +96,7 @@ fn add_if_unknown(
     Ok(())
 }
 
-// Whether a text is in one of two tables.
+// Returns true if a text is in one of two tables.
 fn is_known(services: &Names, bundles: &Names, text: &str) -> bool
     ensures { IsTrue result ↔ (Contains services.now text.now ⊎ Contains bundles.now text.now) }
 {

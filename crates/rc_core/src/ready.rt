@@ -28,7 +28,7 @@ pub(crate) struct Ready {
 }
 
 impl Ready {
-    /// The counts before the first event, and the queue, with room for all services.
+    /// Creates the counts before the first event, and the queue, with room for all services.
     pub(crate) fn new(
         alloc: Global,
         graph: &Graph,
@@ -54,7 +54,7 @@ impl Ready {
         })
     }
 
-    /// The service that is to be taken next.
+    /// Returns the service that is to be taken next, if there is one.
     #[inline(always)]
     pub(crate) fn first(&self) -> Option<u16>
         ensures some { IfSome result (λ s. Contains self.now.queue.items s) }
@@ -66,7 +66,7 @@ impl Ready {
         }
     }
 
-    /// Whether a service waits for none.
+    /// Returns true if a service waits for none.
     pub(crate) fn waits_for_none(&self, service: u16) -> bool
         requires { service < length self.now.waits.items }
         ensures { IsTrue result ↔ (slice_index self.now.waits.items service ≡ 0) }
@@ -74,7 +74,7 @@ impl Ready {
         self.waits[service as usize] == 0
     }
 
-    /// Whether a service waits for any.
+    /// Returns true if a service waits for any.
     #[inline(always)]
     fn waits_for_some(&self, service: u16) -> bool
         requires { service < length self.now.waits.items }
@@ -83,7 +83,7 @@ impl Ready {
         0 < self.waits[service as usize]
     }
 
-    /// The transition of a service has ended. Where it did well, the service has arrived.
+    /// Notes that the transition of a service has ended. If it went well, the service has arrived.
     #[inline(always)]
     pub(crate) fn note_end(
         &mut self,
@@ -108,7 +108,7 @@ impl Ready {
         }
     }
 
-    /// Takes a service out of the queue. What stands last takes its place.
+    /// Removes a service from the queue. The last service of the queue takes its place.
     #[inline(always)]
     pub(crate) fn take_out(&mut self, service: u16)
         requires queued { Contains self.old.queue.items service }
@@ -124,7 +124,8 @@ impl Ready {
         }
     }
 
-    /// A service has arrived for which those of a list wait that wait for any.
+    /// Notes that a service has arrived. Each service of the list that waits for any waits for one
+    /// less.
     #[inline(always)]
     fn arrive(&mut self, list: &[u16])
         requires list { IsAscending list.now }
@@ -141,7 +142,7 @@ impl Ready {
         }
     }
 
-    /// A service has gone where it was to go.
+    /// Notes that a service has gone where it was to go.
     #[inline(always)]
     fn note_arrival(&mut self, graph: &Graph, lower: &Set, raise: &Set, service: u16)
         requires lists { AreNeeds graph.now }
@@ -159,7 +160,7 @@ impl Ready {
         }
     }
 
-    /// A service waits for one less. It goes into the queue if that was the last.
+    /// Makes a service wait for one less, and puts it into the queue if that was the last.
     #[inline(always)]
     fn wait_for_less(&mut self, service: u16)
         requires known { service < length self.old.waits.items }
@@ -188,7 +189,7 @@ impl Ready {
     }
 }
 
-/// Of each service, how many must arrive before it may be taken.
+/// Returns for each service the number of services that must arrive before it may be taken.
 fn waits_of(
     alloc: Global,
     graph: &Graph,
@@ -211,7 +212,8 @@ fn waits_of(
     Ok(waits)
 }
 
-/// Whether all services are in a set, or none. Nothing: some are.
+/// Returns `Some(true)` if all services are in a set, `Some(false)` if none are, and `None` if only
+/// some are.
 fn alike(set: &Set) -> Option<bool>
     ensures { IfSome result (AreAlike set.now) }
 {
@@ -224,7 +226,7 @@ fn alike(set: &Set) -> Option<bool>
     }
 }
 
-/// Writes down of each service of a set how many need it and are up.
+/// Writes down for each service of a set the number of services that need it and are up.
 fn count_needing(waits: &mut Vec<u16>, graph: &Graph, up: &Set, alike: Option<bool>, lower: &Set)
     requires bound { length waits.old.items ≡ length graph.now }
     requires lists { AreNeeds graph.now }
@@ -240,7 +242,7 @@ fn count_needing(waits: &mut Vec<u16>, graph: &Graph, up: &Set, alike: Option<bo
     }
 }
 
-/// Writes down of each service of a set how many it needs that are not up.
+/// Writes down for each service of a set the number of services that it needs and that are not up.
 fn count_needed(waits: &mut Vec<u16>, graph: &Graph, up: &Set, alike: Option<bool>, raise: &Set)
     requires bound { length waits.old.items ≡ length graph.now }
     requires lists { AreNeeds graph.now }
@@ -256,7 +258,8 @@ fn count_needed(waits: &mut Vec<u16>, graph: &Graph, up: &Set, alike: Option<boo
     }
 }
 
-/// How many of a list are in a set, or are not, where it may be known that all are, or none.
+/// Counts the services of a list that are in a set, or those that are not. It may be known from
+/// `alike` that all services are in the set, or none.
 fn count_in(list: &[u16], set: &Set, alike: Option<bool>, inside: bool) -> u16
     requires list { IsAscending list.now }
     requires known { All (λ t. t < length set.now) list.now }
@@ -271,7 +274,8 @@ fn count_in(list: &[u16], set: &Set, alike: Option<bool>, inside: bool) -> u16
     }
 }
 
-/// The same where all are in the set, or none.
+/// Counts the services of a list that are in a set, or those that are not. Either all services are
+/// in the set, or none.
 fn count_alike(list: &[u16], set: &Set, all: bool, inside: bool) -> u16
     requires list { IsAscending list.now }
     requires known { All (λ t. t < length set.now) list.now }
@@ -285,7 +289,7 @@ fn count_alike(list: &[u16], set: &Set, all: bool, inside: bool) -> u16
     if all == inside { list.len() as u16 } else { 0 }
 }
 
-/// How many of a list are in a set, or are not.
+/// Counts the services of a list that are in a set, or those that are not.
 fn count_of(list: &[u16], set: &Set, inside: bool) -> u16
     requires list { IsAscending list.now }
     requires known { All (λ t. t < length set.now) list.now }
@@ -302,7 +306,7 @@ fn count_of(list: &[u16], set: &Set, inside: bool) -> u16
     count
 }
 
-/// The services that are to move and wait for none, the first of them last.
+/// Creates the queue of the services that are to move and wait for none, the first of them last.
 fn queue_of(alloc: Global, waits: &[u16], planned: &Set) -> Result<Vec<u16>, NoMem>
     requires few { length waits.now ≤ 4096 }
     requires planned { length planned.now ≡ length waits.now }
@@ -320,7 +324,7 @@ fn queue_of(alloc: Global, waits: &[u16], planned: &Set) -> Result<Vec<u16>, NoM
     Ok(queue)
 }
 
-/// Where each service of a queue stands in it.
+/// Returns the place of each service of a queue.
 fn places_of(alloc: Global, queue: &[u16], services: u16) -> Result<Vec<u16>, NoMem>
     requires once { AreDistinct queue.now }
     requires known { All (λ s. s < services) queue.now }

@@ -94,9 +94,9 @@ impl Model for Run {
 }
 
 impl Run {
-    /// A run of a plan, in which nothing has happened yet. With a deadline it may be stopped from
-    /// that moment on. All the room that it will need is made here: two events for each service
-    /// that is to move, and one to stop.
+    /// Creates a run of a plan, in which nothing has happened yet. With a deadline, the run may be
+    /// stopped from that moment on. Allocates all the room that the run will need: two events for
+    /// each service that is to move, and one to stop.
     pub fn open(
         alloc: Global,
         graph: &Graph,
@@ -146,8 +146,8 @@ impl Run {
         })
     }
 
-    /// Asks for a job on behalf of a worker, from 1 to 64, that holds
-    /// nothing. Of several jobs it gives any.
+    /// Asks for a job on behalf of a worker, from 1 to 64, that holds nothing. If there are several
+    /// jobs, returns any of them.
     #[inline(always)]
     pub fn take(&mut self, worker: u8) -> Result<Took, NotLegal>
         ensures answer { IfOk result (λ took. IsAnswered self.old worker took self.new) }
@@ -168,7 +168,7 @@ impl Run {
         }
     }
 
-    /// Tells how the transition of the service that a worker holds ended.
+    /// Reports how the transition of the service that a worker holds ended.
     #[inline(always)]
     pub fn done(&mut self, worker: u8, service: u16, outcome: Outcome) -> Result<(), NotLegal>
         ensures ok { OnOk result (IsLegal self.old.course self.old.events
@@ -186,8 +186,8 @@ impl Run {
         Ok(())
     }
 
-    /// A worker, from 1 to 64, stops the run at a moment, in milliseconds, that has reached
-    /// the deadline. Nothing is taken from then on. A run that is settled may still be
+    /// Stops the run on behalf of a worker, from 1 to 64, at a moment, in milliseconds, that has
+    /// reached the deadline. Nothing is taken from then on. A run that is settled may still be
     /// stopped, and then counts as stopped.
     pub fn stop(&mut self, worker: u8, moment: u64) -> Result<(), NotLegal>
         ensures ok { OnOk result (IsLegal self.old.course self.old.events
@@ -214,7 +214,7 @@ impl Run {
         Ok(())
     }
 
-    /// Where a service stands now.
+    /// Returns the present standing of a service.
     pub fn standing(&self, service: u16) -> Standing
         requires { service < length self.now.course.needs }
         ensures { result ≡ standing_of self.now.course self.now.events service }
@@ -222,7 +222,7 @@ impl Run {
         self.tables.standings[service as usize]
     }
 
-    /// Where the services stand now, each at the place of its number.
+    /// Returns the present standings of the services, each at the place of its number.
     pub fn standings(&self) -> &[Standing]
         ensures bound { length result.now ≡ length self.now.course.needs }
         ensures stands { (s : ℕ) → slice_index_or result.now s Standing.Down
@@ -231,21 +231,21 @@ impl Run {
         &self.tables.standings
     }
 
-    /// How many services are to move.
+    /// Returns the number of services that are to move.
     pub fn planned(&self) -> usize
         ensures { result ≡ planned_count self.now.course }
     {
         self.lower.len() as usize + self.raise.len() as usize
     }
 
-    /// Whether nothing is held, and nothing may be taken any more.
+    /// Returns true if nothing is held, and nothing may be taken any more.
     pub fn settled(&self) -> bool
         ensures { IsTrue result ↔ IsSettled self.now.course self.now.events }
     {
         !self.holds_some() && self.next_move().is_none()
     }
 
-    /// The events so far, in order.
+    /// Returns the events so far, in order.
     pub fn trace(&self) -> &[Event]
         ensures events { result.now ≡ self.now.events }
         ensures course { IsCourse self.now.course }
@@ -255,8 +255,8 @@ impl Run {
         self.trace.as_slice()
     }
 
-    /// The end of a settled run, which tells what has become of each service. Without a stop what
-    /// is live hangs on what failed alone, and not on the order of events.
+    /// Returns the end of a settled run, from which the fate of each service can be read. Without a
+    /// stop, what is live depends only on what failed, and not on the order of events.
     pub fn finish(self) -> Ended
         requires { IsSettled self.course self.events }
         ensures run { result ≡ self }
@@ -268,7 +268,7 @@ impl Run {
             (s : ℕ) → IsLive self.course self.events s
             ↔ EndOf self.course (WouldFail self.course fails) s }
     {
-        // What the trace tells of the course is what the clauses on the end stand on.
+        // The clauses on the end rest on what the contract of `trace` says of the course.
         let _ = self.trace();
         Ended { run: self }
     }
@@ -320,7 +320,8 @@ impl Run {
     }
 }
 
-/// The services that are up, those that are to go down and those that are to come up.
+/// Returns copies of the sets of the services that are up, those that are to go down and those that
+/// are to come up.
 fn sets_of(alloc: Global, plan: &Plan) -> Result<(Set, Set, Set), NoMem>
     ensures opening { IfOk result (λ sets. sets.0 ≡ plan.now.opening) }
     ensures lower { IfOk result (λ sets. sets.1 ≡ plan.now.lower) }
@@ -341,7 +342,8 @@ fn sets_of(alloc: Global, plan: &Plan) -> Result<(Set, Set, Set), NoMem>
 /// Room for the events of a run, and for a list of its end.
 type Rooms = (Vec<Event>, Vec<u16>);
 
-/// Empty lists with room for so many events, and for so many services.
+/// Creates two empty lists, one with room for `events` events, and one with room for `services`
+/// services.
 fn rooms_of(alloc: Global, events: usize, services: usize) -> Result<Rooms, NoMem>
     ensures trace { IfOk result (λ rooms. (rooms.0.items ≡ []) × (vec_len rooms.0 ≡ 0)
         × (events ≤ vec_capacity rooms.0)) }

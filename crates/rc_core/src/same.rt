@@ -9,8 +9,8 @@ use rc_select::Plan;
 use rc_set::Set;
 
 impl Run {
-    /// Whether it is a run of this plan on this graph, with this deadline. It compares the graphs
-    /// as two slices, with a number for each service and pair.
+    /// Returns true if the run is one of this plan on this graph, with this deadline. Compares the
+    /// graphs as two slices, with a number for each service and pair.
     pub fn is_of(&self, graph: &Graph, plan: &Plan, deadline: Option<u64>) -> bool
         ensures { IsTrue result ↔ (self.now.course ≡ course_of graph.now plan.now deadline) }
     {
@@ -22,7 +22,7 @@ impl Run {
     }
 }
 
-/// Whether two moments, or none, are one.
+/// Returns true if two moments are equal, or both are missing.
 fn is_same_moment(one: Option<u64>, other: Option<u64>) -> bool
     ensures { IsTrue result ↔ (one ≡ other) }
 {
@@ -33,7 +33,7 @@ fn is_same_moment(one: Option<u64>, other: Option<u64>) -> bool
     }
 }
 
-/// Whether two sets have one bound and the same members.
+/// Returns true if two sets have the same bound and the same members.
 fn is_same_set(one: &Set, other: &Set) -> bool
     ensures { IsTrue result ↔ (one.now ≡ other.now) }
 {

@@ -34,7 +34,7 @@ impl Model for Db {
     ghost invariant = { λ d. IsDatabase (database_of d.parts) };
 }
 
-// Not derived: a crate that lets one go calls this, and proves nothing of its parts.
+// Not derived: a crate that drops a database calls this, and proves nothing about its parts.
 impl Drop for Db {
     fn drop(self) {
         let Db { parts: _ } = self;
@@ -42,7 +42,7 @@ impl Drop for Db {
 }
 
 impl Db {
-    /// The database of these parts. Takes no memory.
+    /// Creates the database of these parts. Takes no memory.
     pub fn join(parts: Parts) -> Result<Db, Unfit>
         ensures database { IfOk result (λ db. db ≡ database_of parts) }
         ensures fit { OnOk result (FitTogether (database_of parts)) }
@@ -55,7 +55,7 @@ impl Db {
         }
     }
 
-    /// The services' names. A service is its name's place.
+    /// Returns the names of the services. A service is the place of its name.
     pub fn names(&self) -> &Names
         ensures names { result.now ≡ self.now.names }
         ensures database { IsDatabase self.now }
@@ -63,7 +63,7 @@ impl Db {
         &self.parts.names
     }
 
-    /// Which service needs which.
+    /// Returns the graph of which service needs which.
     pub fn graph(&self) -> &Graph
         ensures graph { result.now ≡ self.now.needs }
         ensures database { IsDatabase self.now }
@@ -71,7 +71,7 @@ impl Db {
         &self.parts.graph
     }
 
-    /// The bundles.
+    /// Returns the table of the bundles.
     pub fn table(&self) -> &Table
         ensures table { result.now ≡ self.now.table }
         ensures database { IsDatabase self.now }
@@ -79,7 +79,7 @@ impl Db {
         &self.parts.table
     }
 
-    /// What is said of a service.
+    /// Returns the description of a service.
     pub fn service(&self, id: u16) -> &Service
         requires { id < length self.now.names }
         ensures { slice_get self.now.services id ≡ Some result.now }
@@ -87,8 +87,8 @@ impl Db {
         &self.parts.services[id as usize]
     }
 
-    /// Whether a service stays up where a change downwards or a pruning one would
-    /// lower it, also where it is named.
+    /// Returns true if a service stays up when a change of mode `Down` or a pruning change would
+    /// lower it, even if it is named.
     pub fn is_essential(&self, id: u16) -> bool
         requires { id < length self.now.names }
         ensures { IsTrue result ↔ IsEssential self.now id }
@@ -96,8 +96,8 @@ impl Db {
         self.service(id).essential
     }
 
-    /// The services that words stand for by a table of bundles, which need not be the database's
-    /// own. A word that is a service's and a bundle's name stands for both.
+    /// Returns the services that words stand for by a table of bundles, which need not be the
+    /// database's own. A word that is the name of a service and of a bundle stands for both.
     pub fn selected(
         &self,
         alloc: Global,

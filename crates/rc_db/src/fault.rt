@@ -19,7 +19,7 @@ pub enum QueryFault {
     Memory,
 }
 
-// What is told of a fault.
+// Returns the message of a fault.
 fn told_of(fault: &QueryFault) -> &'static str {
     match fault {
         QueryFault::Unknown(_) => "unknown name",

@@ -12,7 +12,7 @@ use crate::table::Table;
 use rc_graph::Graph;
 use rc_names::{Kind, Names};
 
-/// Whether parts fit together, so that they make a database.
+/// Returns true if parts fit together, so that they make a database.
 pub(crate) fn fit_together(parts: &Parts) -> bool
     ensures fit { IsTrue result ↔ FitTogether (database_of parts.now) }
     ensures database { OnTrue result (IsDatabase (database_of parts.now)) }
@@ -38,7 +38,7 @@ pub(crate) fn fit_together(parts: &Parts) -> bool
     are_apart(&parts.names, &parts.table)
 }
 
-/// Whether all sets of a table have one bound.
+/// Returns true if all sets of a table have the given bound.
 fn are_below(table: &Table, bound: u16) -> bool
     ensures bounds { IsTrue result ↔ HaveBound bound table.now }
     ensures table { IsTable table.now }
@@ -52,7 +52,7 @@ fn are_below(table: &Table, bound: u16) -> bool
     true
 }
 
-/// Whether none is a bundle.
+/// Returns true if none of the services is a bundle.
 fn are_services(services: &[Service]) -> bool
     ensures services { IsTrue result ↔ All (λ s. s.kind ≢ Kind.Bundle) services.now }
     ensures limits { OnTrue result (All HasLimits services.now) }
@@ -65,7 +65,7 @@ fn are_services(services: &[Service]) -> bool
     true
 }
 
-/// Whether each service that writes for another writes for a longrun that it needs.
+/// Returns true if each service that writes for another writes for a longrun that it needs.
 fn all_feed_needed_longruns(parts: &Parts) -> bool
     requires { length parts.now.services.items ≡ length parts.now.graph }
     ensures { IsTrue result ↔ ((s t : ℕ) → Feeds (database_of parts.now) s t →
@@ -79,7 +79,7 @@ fn all_feed_needed_longruns(parts: &Parts) -> bool
     true
 }
 
-/// Whether a service, if it writes for another, writes for a longrun that it needs.
+/// Returns true if a service writes for none, or writes for a longrun that it needs.
 fn feeds_a_needed_longrun(parts: &Parts, s: u16) -> bool
     requires bound { length parts.now.services.items ≡ length parts.now.graph }
     requires service { s < length parts.now.graph }
@@ -92,7 +92,7 @@ fn feeds_a_needed_longrun(parts: &Parts, s: u16) -> bool
     }
 }
 
-/// The service that a service writes for.
+/// Returns the service that a service writes for, if there is one.
 fn producer_of(parts: &Parts, s: u16) -> Option<u16>
     requires { s < length parts.now.services.items }
     ensures some { IfSome result (λ t. Feeds (database_of parts.now) s t) }
@@ -101,7 +101,7 @@ fn producer_of(parts: &Parts, s: u16) -> Option<u16>
     parts.services[s as usize].producer_for
 }
 
-/// Whether a service needs another.
+/// Returns true if a service needs another.
 fn is_needed(graph: &Graph, s: u16, t: u16) -> bool
     requires { s < length graph.now }
     ensures { IsTrue result ↔ Needs graph.now s t }
@@ -109,7 +109,7 @@ fn is_needed(graph: &Graph, s: u16, t: u16) -> bool
     graph.needs(s).contains(&t)
 }
 
-/// Whether a number is that of a longrun.
+/// Returns true if a number is that of a longrun.
 fn is_longrun(parts: &Parts, t: u16) -> bool
     ensures { IsTrue result ↔ IsKind (database_of parts.now) t Kind.Longrun }
 {
@@ -119,7 +119,7 @@ fn is_longrun(parts: &Parts, t: u16) -> bool
     }
 }
 
-/// Whether no bundle has the name of a service.
+/// Returns true if no bundle has the name of a service.
 fn are_apart(names: &Names, table: &Table) -> bool
     ensures { IsTrue result ↔ AreApart names.now table.now }
 {

@@ -3,7 +3,7 @@
 ghost use Rattle.std.specs.Prelude.{◌≡◌, ℕ, List};
 ghost use Rattle.rc_model.specs.Database.{Bundles, IsTable, value_of};
 
-/// A table is what it has under each name.
+/// States that a table is determined by what it has under each name.
 pub fn tables_are_their_values()
     ensures { (a b : Bundles) → IsTable a → IsTable b →
         ((name : List ℕ) → value_of a name ≡ value_of b name) → a ≡ b }

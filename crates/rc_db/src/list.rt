@@ -18,7 +18,7 @@ use rc_set::NoMem;
 use std::alloc::Global;
 
 impl Db {
-    /// The names of one sort or of all, in byte order.
+    /// Returns the names of one sort or of all, in byte order.
     pub fn list(&self, alloc: Global, which: Which) -> Result<Vec<&Name>, QueryFault>
         ensures names { IfOk result (λ names. ListsNames (IsShown self.now which)
             (map (λ name. name.now) names.items)) }
@@ -35,7 +35,7 @@ impl Db {
     }
 }
 
-/// The names of the services and of the bundles, each pushed in its turn.
+/// Returns the names of the services and of the bundles, each pushed in its turn.
 fn all_names<'a>(alloc: Global, names: &'a Names, table: &'a Table) -> Result<Vec<&'a Name>, NoMem>
     requires names { IsInByteOrder names.now }
     requires apart { AreApart names.now table.now }
@@ -60,7 +60,8 @@ fn all_names<'a>(alloc: Global, names: &'a Names, table: &'a Table) -> Result<Ve
     Ok(all)
 }
 
-/// Whether the next name of all is that of the next service, and not that of the next bundle.
+/// Returns true if the next name of all is that of the next service, and not that of the next
+/// bundle.
 fn is_service_next(names: &Names, id: u16, table: &Table, place: u16) -> bool
     requires id { id ≤ length names.now }
     requires place { place ≤ length table.now }
@@ -78,7 +79,7 @@ fn is_service_next(names: &Names, id: u16, table: &Table, place: u16) -> bool
     names.name_of(id).text() < table.at(place).0.text()
 }
 
-/// The names of the services.
+/// Returns the names of the services.
 fn service_names(alloc: Global, names: &Names) -> Result<Vec<&Name>, NoMem>
     ensures { IfOk result (λ all. map (λ name. name.now) all.items ≡ names.now) }
 {
@@ -89,7 +90,7 @@ fn service_names(alloc: Global, names: &Names) -> Result<Vec<&Name>, NoMem>
     Ok(all)
 }
 
-/// The names of the bundles.
+/// Returns the names of the bundles.
 fn bundle_names(alloc: Global, table: &Table) -> Result<Vec<&Name>, NoMem>
     ensures { IfOk result (λ all. map (λ name. name.now) all.items ≡ names_of table.now) }
 {
@@ -100,7 +101,7 @@ fn bundle_names(alloc: Global, table: &Table) -> Result<Vec<&Name>, NoMem>
     Ok(all)
 }
 
-/// The names of the services of a kind.
+/// Returns the names of the services of a kind.
 fn names_of_kind(alloc: Global, db: &Db, kind: Kind) -> Result<Vec<&Name>, NoMem>
     ensures { IfOk result (λ all. ListsNames
         (λ name. (service : Facts) × IsServiceNamed db.now name service × (service.kind ≡ kind))

@@ -9,28 +9,28 @@ use rc_names::Names;
 use rc_set::{NoMem, Set};
 use std::alloc::Global;
 
-/// Whether a text is among names.
+/// Returns true if a text is among names.
 pub fn has_name(names: &Names, text: &str) -> bool
     ensures { IsTrue result ↔ Contains names.now text.now }
 {
     names.find(text).is_some()
 }
 
-/// Whether a text is the name of a bundle.
+/// Returns true if a text is the name of a bundle.
 pub fn has_bundle(table: &Table, text: &str) -> bool
     ensures { IsTrue result ↔ Contains (names_of table.now) text.now }
 {
     table.get(text).is_some()
 }
 
-/// Whether a text is the name of a service or of a bundle.
+/// Returns true if a text is the name of a service or of a bundle.
 fn is_known(names: &Names, table: &Table, text: &str) -> bool
     ensures { IsTrue result ↔ IsKnown names.now table.now text.now }
 {
     has_name(names, text) || has_bundle(table, text)
 }
 
-/// The place of the first word that is no name.
+/// Returns the place of the first word that is no name, if there is one.
 pub fn first_unknown(names: &Names, table: &Table, words: &[String]) -> Option<usize>
     ensures some { IfSome result
         (IsUnknownAt names.now table.now (map string_bytes words.now)) }
@@ -45,7 +45,7 @@ pub fn first_unknown(names: &Names, table: &Table, words: &[String]) -> Option<u
     None
 }
 
-/// The services that words stand for.
+/// Returns the services that words stand for.
 pub(crate) fn set_of(
     alloc: Global,
     names: &Names,
@@ -65,7 +65,7 @@ pub(crate) fn set_of(
     Ok(set)
 }
 
-/// Puts the service of a name in, if there is one.
+/// Adds the service of a name to a set, if there is one.
 fn add_service(set: &mut Set, names: &Names, text: &str)
     requires bound { length set.old ≡ length names.now }
     requires names { AreNames names.now }
@@ -77,7 +77,7 @@ fn add_service(set: &mut Set, names: &Names, text: &str)
     }
 }
 
-/// Puts the services of a bundle in, if there is one of that name.
+/// Adds the services of a bundle to a set, if there is a bundle of that name.
 fn add_bundle(set: &mut Set, table: &Table, text: &str)
     requires { HaveBound (length set.old) table.now }
     ensures bound { length set.new ≡ length set.old }

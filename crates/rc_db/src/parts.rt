@@ -13,7 +13,7 @@ pub struct Parts {
     pub table: Table,
 }
 
-// Not derived: a crate that lets one go calls this, and proves nothing of its parts.
+// Not derived: a crate that drops the parts calls this, and proves nothing about them.
 impl Drop for Parts {
     fn drop(self) {
         let Parts {

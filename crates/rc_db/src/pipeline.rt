@@ -15,7 +15,7 @@ use rc_set::{NoMem, Set};
 use std::alloc::Global;
 
 impl Db {
-    /// The longruns of a longrun's pipeline, ascending.
+    /// Returns the longruns of a longrun's pipeline, ascending.
     pub fn pipeline(&self, alloc: Global, name: &str) -> Result<Vec<u16>, QueryFault>
         ensures ids { IfOk result (λ ids. (s : ℕ) × (slice_get self.now.names s ≡ Some name.now) ×
             Lists (InPipelineOf self.now s) ids.items) }
@@ -31,7 +31,7 @@ impl Db {
     }
 }
 
-/// The longruns whose pipelines end where that of a service ends.
+/// Returns the longruns whose pipelines end where that of a service ends.
 fn pipeline_of(alloc: Global, db: &Db, id: u16) -> Result<Set, NoMem>
     requires { id < length db.now.names }
     ensures { IfOk result (λ set. Holds set (InPipelineOf db.now id)) }
@@ -44,7 +44,7 @@ fn pipeline_of(alloc: Global, db: &Db, id: u16) -> Result<Set, NoMem>
     Ok(set)
 }
 
-/// Puts a service in, if it is in the pipeline of another.
+/// Adds a service to a set, if it is in the pipeline of another.
 fn add_if_in_pipeline(set: &mut Set, db: &Db, ends: &[u16], id: u16, s: u16)
     requires set { length set.old ≡ length db.now.names }
     requires id { id < length db.now.names }
@@ -60,7 +60,7 @@ fn add_if_in_pipeline(set: &mut Set, db: &Db, ends: &[u16], id: u16, s: u16)
     }
 }
 
-/// Whether a service is a longrun whose pipeline ends where that of another ends.
+/// Returns true if a service is a longrun whose pipeline ends where that of another ends.
 fn is_in_pipeline(db: &Db, ends: &[u16], id: u16, s: u16) -> bool
     requires id { id < length db.now.names }
     requires service { s < length db.now.names }
@@ -75,8 +75,8 @@ fn is_in_pipeline(db: &Db, ends: &[u16], id: u16, s: u16) -> bool
     db.service(s).is_longrun()
 }
 
-/// Where the pipeline of each service ends. One step for each service, each after the one that it
-/// writes for, which it needs.
+/// Returns the end of the pipeline of each service. Takes one step for each service, after that for
+/// the service that it writes for, which it needs.
 fn last_consumers(alloc: Global, db: &Db) -> Result<Vec<u16>, NoMem>
     ensures bound { IfOk result (λ ends. length ends.items ≡ length db.now.names) }
     ensures ends { IfOk result (λ ends. (s : ℕ) → s < length db.now.names →
@@ -91,7 +91,7 @@ fn last_consumers(alloc: Global, db: &Db) -> Result<Vec<u16>, NoMem>
     Ok(ends)
 }
 
-/// Where the pipeline of a service ends, once that is known of the one that it writes for.
+/// Returns the end of the pipeline of a service, once that of the service it writes for is known.
 fn last_consumer(db: &Db, ends: &[u16], s: u16) -> u16
     requires service { s < length db.now.names }
     requires bound { length ends.now ≡ length db.now.names }
@@ -104,7 +104,7 @@ fn last_consumer(db: &Db, ends: &[u16], s: u16) -> u16
     }
 }
 
-/// The service that reads what a service writes.
+/// Returns the service that reads what a service writes, if there is one.
 fn consumer_of(db: &Db, s: u16) -> Option<u16>
     requires { s < length db.now.names }
     ensures some { IfSome result (λ t. Feeds db.now s t × (t < length db.now.names)) }

@@ -18,7 +18,7 @@ use rc_names::Kind;
 use std::alloc::Global;
 
 impl Db {
-    /// The kind of a name. Takes no memory.
+    /// Returns the kind of a name. Takes no memory.
     pub fn kind(&self, name: &str) -> Result<Kind, QueryFault>
         ensures kind { IfOk result (λ kind. IsKindOf self.now name.now kind) }
         ensures fault { IfErr result (λ fault. IsQueryFault self.now AnyName name.now fault) }
@@ -36,7 +36,8 @@ impl Db {
         }
     }
 
-    /// How long a service may take on its way, in milliseconds; 0 is no limit. Takes no memory.
+    /// Returns the time that a service may take on its way, in milliseconds; 0 is no limit. Takes
+    /// no memory.
     pub fn limit(&self, name: &str, way: Way) -> Result<u32, QueryFault>
         ensures limit { IfOk result (λ limit. (service : Facts) ×
             IsServiceNamed self.now name.now service × (limit ≡ limit_of service way)) }
@@ -50,7 +51,7 @@ impl Db {
         }
     }
 
-    /// Whether a service is essential. Takes no memory.
+    /// Returns true if a service is essential. Takes no memory.
     pub fn flags(&self, name: &str) -> Result<bool, QueryFault>
         ensures flags { IfOk result (λ essential. (service : Facts) ×
             IsServiceNamed self.now name.now service × (essential ≡ service.essential)) }
@@ -61,7 +62,7 @@ impl Db {
         Ok(service.essential)
     }
 
-    /// The services of a bundle, ascending.
+    /// Returns the services of a bundle, ascending.
     pub fn contents(&self, alloc: Global, name: &str) -> Result<Vec<u16>, QueryFault>
         ensures ids { IfOk result (λ ids. (set : List Bool) ×
             (value_of self.now.table name.now ≡ Some set) × Lists (Has set) ids.items) }
@@ -79,7 +80,7 @@ impl Db {
         }
     }
 
-    /// The text that is run for a oneshot on its way, empty where there is none.
+    /// Returns the text that is run for a oneshot on its way, which is empty if there is none.
     pub fn script(&self, alloc: Global, name: &str, way: Way) -> Result<String, QueryFault>
         ensures text { IfOk result (λ text. (service : Facts) ×
             IsServiceNamed self.now name.now service
@@ -94,7 +95,7 @@ impl Db {
         Ok(service.script(alloc, way)?)
     }
 
-    /// The service of a name.
+    /// Returns the service of a name.
     pub(crate) fn service_named(&self, name: &str) -> Result<u16, QueryFault>
         ensures database { IsDatabase self.now }
         ensures service { IfOk result (λ s. slice_get self.now.names s ≡ Some name.now) }

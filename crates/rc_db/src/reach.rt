@@ -16,7 +16,7 @@ use rc_set::{NoMem, Set};
 use std::alloc::Global;
 
 impl Db {
-    /// The services that names stand for, ascending.
+    /// Returns the services that names stand for, ascending.
     pub fn atomics(&self, alloc: Global, names: &[String]) -> Result<Vec<u16>, QueryFault>
         ensures ids { IfOk result (λ ids. Lists
             (Selected self.now.names self.now.table (map string_bytes names.now)) ids.items) }
@@ -29,7 +29,8 @@ impl Db {
         ids_of(alloc, set)
     }
 
-    /// What the services of the names need, ascending; on the way down what needs them.
+    /// Returns the services that the services of the names need, ascending. On the way down,
+    /// returns the services that need them.
     pub fn dependencies(
         &self,
         alloc: Global,
@@ -49,8 +50,8 @@ impl Db {
         ids_of(alloc, next?)
     }
 
-    /// The services of the names with all that they reach, ascending; on the way down with all that
-    /// reach one of them.
+    /// Returns the services of the names with all that they reach, ascending. On the way down,
+    /// returns them with all that reach one of them.
     pub fn all_dependencies(
         &self,
         alloc: Global,
@@ -70,7 +71,7 @@ impl Db {
         ids_of(alloc, all?)
     }
 
-    /// The services that names stand for by the database's own bundles.
+    /// Returns the services that names stand for by the database's own bundles.
     fn chosen(&self, alloc: Global, names: &[String]) -> Result<Set, QueryFault>
         ensures bound { IfOk result (λ set. length set ≡ length self.now.needs) }
         ensures members { IfOk result (λ set. Holds set
@@ -84,7 +85,7 @@ impl Db {
     }
 }
 
-/// The members of a set, which is let go.
+/// Returns the members of a set, and drops the set.
 pub(crate) fn ids_of(alloc: Global, set: Set) -> Result<Vec<u16>, QueryFault>
     ensures ids { IfOk result (λ ids. Lists (Has set) ids.items) }
     ensures fault { IfErr result (λ fault. fault ≡ QueryFault.Memory) }
@@ -94,7 +95,7 @@ pub(crate) fn ids_of(alloc: Global, set: Set) -> Result<Vec<u16>, QueryFault>
     Ok(ids?)
 }
 
-/// A set with all that its members reach, or that reach them.
+/// Returns a set with all that its members reach, or with all that reach them.
 fn with_all(alloc: Global, graph: &Graph, set: &Set, way: Way) -> Result<Set, NoMem>
     requires { length set.now ≡ length graph.now }
     ensures { IfOk result (λ all. Holds all (IsWithAll graph.now way (Has set.now))) }
@@ -105,7 +106,7 @@ fn with_all(alloc: Global, graph: &Graph, set: &Set, way: Way) -> Result<Set, No
     }
 }
 
-/// What the members of a set need, or what needs them.
+/// Returns the services that the members of a set need, or those that need them.
 fn next_to(alloc: Global, graph: &Graph, set: &Set, way: Way) -> Result<Set, NoMem>
     requires { length set.now ≡ length graph.now }
     ensures { IfOk result (λ next. Holds next (IsNextTo graph.now way (Has set.now))) }
@@ -117,7 +118,7 @@ fn next_to(alloc: Global, graph: &Graph, set: &Set, way: Way) -> Result<Set, NoM
     Ok(next)
 }
 
-/// Puts in what a service needs or what needs it, if it is a member.
+/// Adds the services that a service needs, or those that need it, if the service is in `set`.
 fn add_beside(next: &mut Set, graph: &Graph, set: &Set, s: u16, way: Way)
     requires next { length next.old ≡ length graph.now }
     requires set { length set.now ≡ length graph.now }
@@ -132,7 +133,7 @@ fn add_beside(next: &mut Set, graph: &Graph, set: &Set, s: u16, way: Way)
     }
 }
 
-/// What a service needs, or what needs it.
+/// Returns the services that a service needs, or those that need it.
 fn beside(graph: &Graph, s: u16, way: Way) -> &[u16]
     requires service { s < length graph.now }
     requires needs { AreNeeds graph.now }
@@ -145,7 +146,7 @@ fn beside(graph: &Graph, s: u16, way: Way) -> &[u16]
     }
 }
 
-/// Puts all of a list in.
+/// Adds all services of a list to a set.
 fn add_all(set: &mut Set, list: &[u16])
     requires { All (λ t. t < length set.old) list.now }
     ensures bound { length set.new ≡ length set.old }

@@ -47,7 +47,7 @@ impl Model for Service {
     ghost invariant = { λ s. (s.limit_up < 2 ^ 32) × (s.limit_down < 2 ^ 32) };
 }
 
-// Not derived: a crate that lets one go calls this, and proves nothing of its parts.
+// Not derived: a crate that drops a service calls this, and proves nothing about its parts.
 impl Drop for Service {
     fn drop(self) {
         let Service {
@@ -63,7 +63,7 @@ impl Drop for Service {
 }
 
 impl Service {
-    /// A service of a kind, of which nothing else is said.
+    /// Creates a service of a kind, with nothing else set.
     pub fn plain(kind: Kind) -> Service
         ensures { result ≡ record {
           kind = kind;
@@ -86,28 +86,28 @@ impl Service {
         }
     }
 
-    /// Whether it is a oneshot.
+    /// Returns true if the service is a oneshot.
     pub fn is_oneshot(&self) -> bool
         ensures { IsTrue result ↔ (self.now.kind ≡ Kind.Oneshot) }
     {
         self.kind == Kind::Oneshot
     }
 
-    /// Whether it is a longrun.
+    /// Returns true if the service is a longrun.
     pub fn is_longrun(&self) -> bool
         ensures { IsTrue result ↔ (self.now.kind ≡ Kind.Longrun) }
     {
         self.kind == Kind::Longrun
     }
 
-    /// Whether it is of a kind.
+    /// Returns true if the service is of a kind.
     pub(crate) fn is_of(&self, kind: Kind) -> bool
         ensures { IsTrue result ↔ (self.now.kind ≡ kind) }
     {
         self.kind == kind
     }
 
-    /// Whether two services are described alike.
+    /// Returns true if two services are described alike.
     pub fn same(&self, other: &Service) -> bool
         ensures { IsTrue result ↔ (self.now ≡ other.now) }
     {
@@ -120,7 +120,7 @@ impl Service {
             && self.producer_for == other.producer_for
     }
 
-    /// Another service that is described alike.
+    /// Creates another service that is described alike.
     pub fn copy(&self, alloc: Global) -> Result<Service, NoMem>
         ensures { IfOk result (λ made. made ≡ self.now) }
     {
@@ -135,7 +135,7 @@ impl Service {
         })
     }
 
-    /// The text that is run for it on its way, empty where there is none.
+    /// Returns the text that is run for the service on its way, which is empty if there is none.
     pub fn script(&self, alloc: Global, way: Way) -> Result<String, NoMem>
         ensures { IfOk result (λ text. string_bytes text ≡ script_of self.now way) }
     {
@@ -150,7 +150,7 @@ impl Service {
     }
 }
 
-/// Whether two texts are one, or both are missing.
+/// Returns true if two texts are equal, or both are missing.
 fn same_text(one: &Option<String>, other: &Option<String>) -> bool
     ensures { IsTrue result
         ↔ (option_map string_bytes one.now ≡ option_map string_bytes other.now) }
@@ -162,7 +162,7 @@ fn same_text(one: &Option<String>, other: &Option<String>) -> bool
     }
 }
 
-/// A copy of a text.
+/// Returns a copy of a text, if there is one.
 fn copy_of_text(alloc: Global, text: &Option<String>) -> Result<Option<String>, NoMem>
     ensures { IfOk result
         (λ made. option_map string_bytes made ≡ option_map string_bytes text.now) }

@@ -34,7 +34,7 @@ impl Model for Table {
     ghost invariant = { λ t. IsTable t.bundles.items };
 }
 
-// Not derived: a crate that lets one go calls this, and proves nothing of its parts.
+// Not derived: a crate that drops a table calls this, and proves nothing about its parts.
 impl Drop for Table {
     fn drop(self) {
         let Table {
@@ -45,7 +45,7 @@ impl Drop for Table {
 }
 
 impl Table {
-    /// A table of no bundles, which keeps the allocator.
+    /// Creates a table of no bundles, which keeps the allocator.
     pub fn new(alloc: Global) -> Table
         ensures { result ≡ [] }
     {
@@ -55,7 +55,7 @@ impl Table {
         }
     }
 
-    /// The set of a name, if a bundle has that name.
+    /// Returns the set of a name, if a bundle has that name.
     pub fn get(&self, name: &str) -> Option<&Set>
         ensures { option_copied result ≡ value_of self.now name.now }
     {
@@ -65,7 +65,7 @@ impl Table {
         }
     }
 
-    /// How many bundles there are. Their places are those below it.
+    /// Returns the number of bundles. Their places are the numbers below it.
     pub fn len(&self) -> u16
         ensures len { result ≡ length self.now }
         ensures table { IsTable self.now }
@@ -73,14 +73,14 @@ impl Table {
         self.bundles.len() as u16
     }
 
-    /// Whether there are no bundles.
+    /// Returns true if there are no bundles.
     pub fn is_empty(&self) -> bool
         ensures { IsTrue result ↔ (self.now ≡ []) }
     {
         self.bundles.is_empty()
     }
 
-    /// The bundle at a place, with its name.
+    /// Returns the bundle at a place, with its name.
     pub fn at(&self, place: u16) -> (&Name, &Set)
         requires { place < length self.now }
         ensures { slice_get self.now place ≡ Some (result.0.now, result.1.now) }
@@ -89,7 +89,7 @@ impl Table {
         (&bundle.0, &bundle.1)
     }
 
-    /// Whether two tables have the same bundles, each with the same set.
+    /// Returns true if two tables have the same bundles, each with the same set.
     pub fn same(&self, other: &Table) -> bool
         ensures { IsTrue result ↔ (self.now ≡ other.now) }
     {
@@ -104,7 +104,7 @@ impl Table {
         true
     }
 
-    /// Another table of the same bundles.
+    /// Creates another table of the same bundles.
     pub fn copy(&self, alloc: Global) -> Result<Table, NoMem>
         ensures { IfOk result (λ table. table ≡ self.now) }
     {
@@ -116,7 +116,7 @@ impl Table {
         Ok(table)
     }
 
-    /// Gives a name a set, and tells the one that it had.
+    /// Sets the set of a name, and returns the set that the name had before, if any.
     pub fn set(&mut self, name: &Name, set: Set) -> Result<Option<Set>, NoMem>
         requires { Contains (names_of self.old) name.now ⊎ (length self.old < MAX_BUNDLES) }
         ensures value { IfOk result (λ value. value ≡ value_of self.old name.now) }
@@ -136,7 +136,7 @@ impl Table {
         }
     }
 
-    /// Takes a name out, and tells the set that it had. Takes no memory.
+    /// Removes a name, and returns the set that it had, if any. Takes no memory.
     pub fn clear(&mut self, name: &str) -> Option<Set>
         ensures value { result ≡ value_of self.old name.now }
         ensures table { IsChangedAt self.old name.now None self.new }
@@ -158,14 +158,14 @@ impl Table {
         requires last { All (λ other. IsBefore other name.now) (names_of self.old) }
         ensures { OnOk result (self.new ≡ self.old ++ (name.now, set.now) ∷ []) }
     {
-        // The text tells that it is a name.
+        // The contract of `text` says that it is a name.
         let _text = name.text();
         let bundle = (name.copy(self.alloc)?, set.copy(self.alloc)?);
         self.bundles.push(bundle)?;
         Ok(())
     }
 
-    // The place of the bundle of a name, or else that at which it would stand.
+    // Returns the place of the bundle of a name, or as an error the place at which it would stand.
     fn place_of(&self, name: &str) -> Result<usize, usize>
         ensures found { IfOk result (λ place. slice_get (names_of self.now) place
             ≡ Some name.now) }
@@ -177,7 +177,7 @@ impl Table {
     }
 }
 
-/// Whether two bundles have one name and one set.
+/// Returns true if two bundles have the same name and the same set.
 fn same_bundle(one: (&Name, &Set), other: (&Name, &Set)) -> bool
     ensures { IsTrue result ↔ ((one.entry.0.now ≡ other.entry.0.now)
         × (one.entry.1.now ≡ other.entry.1.now)) }

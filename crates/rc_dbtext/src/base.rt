@@ -7,7 +7,8 @@ use crate::read::{read_db, read_db_front};
 use rc_db::Db;
 use std::alloc::Global;
 
-/// The database, and what is after it of the input.
+/// Reads the database from `base`, or from the beginning of the input if there is no base. Returns
+/// the database and the rest of the input.
 pub fn database_of<'a>(
     alloc: Global,
     base: Option<&[u8]>,

@@ -19,7 +19,7 @@ use rc_graph::{Draft, Graph, GraphFault};
 use rc_names::Names;
 use std::alloc::{AllocError, Global};
 
-/// The table of the names of services, which ascend.
+/// Creates the table of the names of services, which ascend.
 pub(crate) fn names_of(alloc: Global, services: &[ServiceForm<'_>]) -> Result<Names, NoMem>
     requires few { length services.now ≤ 4096 }
     requires sorted { IsInByteOrder (service_names services.now) }
@@ -39,14 +39,15 @@ pub(crate) fn names_of(alloc: Global, services: &[ServiceForm<'_>]) -> Result<Na
     Ok(names)
 }
 
-// The name of a service.
+// Returns the name of a service.
 fn name_of<'a, 'b>(service: &'b ServiceForm<'a>) -> &'b NameWord<'a>
     ensures { result.now ≡ service.now.head.name }
 {
     &service.head.name
 }
 
-/// Which service needs which, or nothing where one needs what is no service.
+/// Creates the draft of which service needs which. Returns `None` if a service needs what is no
+/// service.
 pub(crate) fn draft_of(
     alloc: Global,
     services: &[ServiceForm<'_>],
@@ -71,7 +72,8 @@ pub(crate) fn draft_of(
     Ok(Some(draft))
 }
 
-// The needs of one service, each looked up once. It answers whether all are names.
+// Adds the needs of one service to the draft, and looks up each once. Returns true if all of them
+// are names.
 fn add_needs(
     draft: &mut Draft,
     service: u16,
@@ -98,7 +100,7 @@ fn add_needs(
     Ok(true)
 }
 
-/// The graph of a draft, or nothing where services need each other in a circle.
+/// Returns the graph of a draft, or `None` if services need each other in a circle.
 pub(crate) fn graph_of(draft: Draft) -> Result<Option<Graph>, NoMem>
     ensures { IfOk result (λ graph. MatchOption graph
         ((cycle : List ℕ) × IsCycle draft cycle) (λ graph. graph ≡ draft)) }
@@ -110,7 +112,7 @@ pub(crate) fn graph_of(draft: Draft) -> Result<Option<Graph>, NoMem>
     }
 }
 
-// The id of a text that is among the names. It is looked for at this place first.
+// Returns the id of a text that is among the names. Looks for it at `place` first.
 fn id_of(text: &NameWord<'_>, names: &Names, place: u16) -> u16
     requires { Contains names.now text.now }
     ensures found { slice_get names.now result ≡ Some text.now }
@@ -123,7 +125,7 @@ fn id_of(text: &NameWord<'_>, names: &Names, place: u16) -> u16
     }
 }
 
-/// What the text says of services, one by one.
+/// Creates the services that a text describes, one by one.
 pub(crate) fn services_of(
     alloc: Global,
     forms: &[ServiceForm<'_>],
@@ -141,7 +143,7 @@ pub(crate) fn services_of(
     Ok(services)
 }
 
-// What the text says of a service.
+// Creates the service that a text describes.
 fn service_of(alloc: Global, form: &ServiceForm<'_>, names: &Names) -> Result<Service, NoMem>
     requires text { IsServiceText form.now }
     requires fed { FeedsKnown names.now form.now.body }
@@ -160,7 +162,7 @@ fn service_of(alloc: Global, form: &ServiceForm<'_>, names: &Names) -> Result<Se
     }
 }
 
-// The id of the longrun that is fed, which is among the names.
+// Returns the id of the longrun that is fed, if there is one. Its name is among the names.
 fn fed_id(fed: &Option<NameWord<'_>>, names: &Names) -> Option<u16>
     requires { IfSome fed.now (Contains names.now) }
     ensures { MatchOption fed.now (result ≡ None)
@@ -172,7 +174,7 @@ fn fed_id(fed: &Option<NameWord<'_>>, names: &Names) -> Option<u16>
     }
 }
 
-// A copy of the text, if there is one.
+// Returns a copy of the text, if there is one.
 fn text_once_more(alloc: Global, text: &Option<&str>) -> Result<Option<String>, NoMem>
     ensures { IfOk result (λ copy. option_map string_bytes copy
         ≡ option_map (λ text. text.now) text.now) }
@@ -183,7 +185,7 @@ fn text_once_more(alloc: Global, text: &Option<&str>) -> Result<Option<String>, 
     }
 }
 
-// The service of a first line, with its texts and what it feeds.
+// Creates the service of a first line, with its texts and the longrun that it feeds.
 fn service_with(
     head: &Head<'_>,
     text_up: Option<String>,

@@ -13,7 +13,7 @@ use rc_names::Names;
 use rc_set::Set;
 use std::alloc::Global;
 
-/// The table of the bundles, whose names and members ascend.
+/// Creates the table of the bundles, whose names and members ascend.
 pub fn table_of(alloc: Global, forms: &[BundleForm<'_>], names: &Names) -> Result<Table, NoMem>
     requires few { length forms.now ≤ 4096 }
     requires sorted { IsInByteOrder (bundle_names forms.now) }
@@ -29,7 +29,7 @@ pub fn table_of(alloc: Global, forms: &[BundleForm<'_>], names: &Names) -> Resul
     Ok(table)
 }
 
-// One bundle more.
+// Adds a bundle to the table, after all others.
 fn add_bundle(
     alloc: Global,
     table: &mut Table,
@@ -54,7 +54,7 @@ fn add_bundle(
     Ok(())
 }
 
-// The set of services with these names, which are all names and ascend.
+// Creates the set of the services with these names. The texts ascend, and all are names.
 fn set_of(alloc: Global, texts: &[NameWord<'_>], names: &Names) -> Result<Set, NoMem>
     requires sorted { IsInByteOrder texts.now }
     requires known { All (Contains names.now) texts.now }
@@ -67,8 +67,8 @@ fn set_of(alloc: Global, texts: &[NameWord<'_>], names: &Names) -> Result<Set, N
     }
 }
 
-/// The set of services with these names, which ascend, or nothing where one is no service's. Each
-/// is looked for after the one before.
+/// Creates the set of the services with these names, which ascend. Returns `None` if one is not the
+/// name of a service. Looks for each name after the one before.
 pub fn known_set(alloc: Global, texts: &[NameWord<'_>], names: &Names) -> Result<Option<Set>, NoMem>
     requires { IsInByteOrder texts.now }
     ensures unknown { IfOk result (λ set. IfNone set (All (Contains names.now) texts.now → ⊥)) }

@@ -7,8 +7,8 @@ use crate::lexer::{BundleForm, NameWord};
 use crate::syntax::{BodyForm, DbForm, ServiceForm};
 use rc_names::{Kind, Names};
 
-/// Whether each member is a service, what is fed is a longrun that is needed, and no bundle has the
-/// name of a service, where each need is a service.
+/// Returns true if each member is a service, each service that is fed is a longrun that the feeding
+/// service needs, and no bundle has the name of a service. Each need must be a service.
 pub(crate) fn is_complete(form: &DbForm<'_>, names: &Names) -> bool
     requires names { names.now ≡ service_names form.now.services }
     requires known { All (λ s. AreKnown names.now s.needs) form.now.services }
@@ -18,14 +18,15 @@ pub(crate) fn is_complete(form: &DbForm<'_>, names: &Names) -> bool
         && bundles_are_complete(form.bundles.as_slice(), names)
 }
 
-/// Whether what bundles have is there, and none has the name of a service.
+/// Returns true if each member of a bundle is among the names, and no bundle has the name of a
+/// service.
 pub fn bundles_are_complete(bundles: &[BundleForm<'_>], names: &Names) -> bool
     ensures { IsTrue result ↔ AreBundlesComplete names.now bundles.now }
 {
     all_members_known(bundles, names) && all_apart(bundles, names)
 }
 
-// Whether the members of bundles are names.
+// Returns true if the members of all bundles are among the names.
 fn all_members_known(bundles: &[BundleForm<'_>], names: &Names) -> bool
     ensures { IsTrue result ↔ All (λ b. AreKnown names.now b.members) bundles.now }
 {
@@ -34,14 +35,14 @@ fn all_members_known(bundles: &[BundleForm<'_>], names: &Names) -> bool
         .all(|bundle| are_known(bundle.members.as_slice(), names))
 }
 
-// Whether no bundle has one of the names.
+// Returns true if no bundle has one of the names.
 fn all_apart(bundles: &[BundleForm<'_>], names: &Names) -> bool
     ensures { IsTrue result ↔ All (λ b. IsApart names.now b.name) bundles.now }
 {
     bundles.iter().all(|bundle| is_apart(&bundle.name, names))
 }
 
-// Whether each service, if it feeds another, feeds a longrun that it needs.
+// Returns true if each service that feeds another feeds a longrun that it needs.
 fn all_feed_well(services: &[ServiceForm<'_>], names: &Names) -> bool
     requires { names.now ≡ service_names services.now }
     ensures { IsTrue result ↔ All (λ s. FeedsWell services.now s.needs s.body) services.now }
@@ -51,7 +52,7 @@ fn all_feed_well(services: &[ServiceForm<'_>], names: &Names) -> bool
         .all(|service| feeds_well(service, services, names))
 }
 
-// Whether a service, if it feeds another, feeds a longrun that it needs.
+// Returns true if a service feeds none, or feeds a longrun that it needs.
 fn feeds_well(service: &ServiceForm<'_>, services: &[ServiceForm<'_>], names: &Names) -> bool
     requires { names.now ≡ service_names services.now }
     ensures { IsTrue result ↔ FeedsWell services.now service.now.needs service.now.body }
@@ -65,7 +66,7 @@ fn feeds_well(service: &ServiceForm<'_>, services: &[ServiceForm<'_>], names: &N
     }
 }
 
-// Whether a name is that of a longrun.
+// Returns true if a name is that of a longrun.
 fn is_longrun(name: &NameWord<'_>, services: &[ServiceForm<'_>], names: &Names) -> bool
     requires { names.now ≡ service_names services.now }
     ensures { IsTrue result ↔ IsLongrunName services.now name.now }
@@ -78,14 +79,14 @@ fn is_longrun(name: &NameWord<'_>, services: &[ServiceForm<'_>], names: &Names) 
     }
 }
 
-// Whether a service is a longrun.
+// Returns true if a service is a longrun.
 fn is_of_longrun(service: &ServiceForm<'_>) -> bool
     ensures { IsTrue result ↔ (service.now.head.kind ≡ Kind.Longrun) }
 {
     service.head.kind() == Kind::Longrun
 }
 
-// Whether all are among the names, each looked for after the one before.
+// Returns true if all texts are among the names. Looks for each text after the one before.
 fn are_known(texts: &[NameWord<'_>], names: &Names) -> bool
     ensures { IsTrue result ↔ AreKnown names.now texts.now }
 {
@@ -101,7 +102,7 @@ fn are_known(texts: &[NameWord<'_>], names: &Names) -> bool
     true
 }
 
-// Whether it is not among the names.
+// Returns true if a text is not among the names.
 #[tactic(auto, unfolding(crate::specs::Parts::IsApart))]
 fn is_apart(text: &NameWord<'_>, names: &Names) -> bool
     ensures { IsTrue result ↔ IsApart names.now text.now }
@@ -109,7 +110,7 @@ fn is_apart(text: &NameWord<'_>, names: &Names) -> bool
     !is_known(text, names)
 }
 
-// Whether it is among the names.
+// Returns true if a text is among the names.
 #[tactic(auto, unfolding(crate::specs::Parts::IsKnown))]
 fn is_known(text: &NameWord<'_>, names: &Names) -> bool
     ensures { IsTrue result ↔ IsKnown names.now text.now }
@@ -117,7 +118,7 @@ fn is_known(text: &NameWord<'_>, names: &Names) -> bool
     names.find(text.text()).is_some()
 }
 
-// Whether it is one of these.
+// Returns true if a name is one of the others.
 fn is_among(name: &NameWord<'_>, others: &[NameWord<'_>]) -> bool
     ensures { IsTrue result ↔ Contains others.now name.now }
 {

@@ -26,7 +26,7 @@ pub enum TextFault {
     Memory,
 }
 
-// What is told of a fault, but for where it is.
+// Returns the message of a fault, without its place.
 fn told_of(fault: &TextFault) -> &'static str {
     match fault {
         TextFault::Bad(_) => "a line has not the form that is due",
@@ -48,7 +48,7 @@ impl fmt::Display for TextFault {
     }
 }
 
-/// A fault of the text in words.
+/// Returns the words that commands print for a fault of the text.
 pub fn text_word(alloc: Global, fault: TextFault) -> Result<Vec<u8>, NoMem>
     ensures { IfOk result (λ text. text.items ≡ text_word fault) }
 {

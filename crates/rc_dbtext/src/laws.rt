@@ -19,7 +19,8 @@ pub fn spelling_is_unique()
     text_is_unique();
 }
 
-/// The text of a database is refused as out of memory alone, at the beginning whatever follows.
+/// States that the text of a database is refused only for lack of memory. At the beginning of
+/// bytes, this holds whatever follows.
 pub fn spelling_is_not_refused()
     ensures front { (d : Database) (rest : List ℕ) (fault : TextFault) → IsDatabase d →
         IsWritable d → IsFrontFault (spelling d ++ rest) fault → fault ≡ Memory }
@@ -30,7 +31,8 @@ pub fn spelling_is_not_refused()
     text_is_not_refused();
 }
 
-/// What refuses bytes is one, out of memory aside: the tests exclude each other.
+/// States that bytes are refused for one reason only, apart from lack of memory: the tests exclude
+/// each other.
 pub fn faults_are_one()
     ensures front { (bytes : List ℕ) (a b : TextFault) → IsFrontFault bytes a →
         IsFrontFault bytes b → a ≢ Memory → b ≢ Memory → a ≡ b }

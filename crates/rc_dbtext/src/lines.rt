@@ -14,7 +14,7 @@ use rc_names::{Kind, Name, Names};
 use rc_set::Set;
 use std::alloc::{AllocError, Global};
 
-/// The first line of a service.
+/// Appends the first line of a service.
 pub(crate) fn push_head(
     alloc: Global,
     out: &mut Vec<u8>,
@@ -29,7 +29,7 @@ pub(crate) fn push_head(
     push_head_with(out, name, service, up.as_bytes(), down.as_bytes())
 }
 
-// The first line of a service, with its limits as they are written.
+// Appends the first line of a service, with its limits as they are written.
 #[tactic(auto, using(crate::proofs::LineLemmas::six_words))]
 fn push_head_with(
     out: &mut Vec<u8>,
@@ -53,7 +53,7 @@ fn push_head_with(
     Ok(())
 }
 
-/// What a service needs.
+/// Appends the line of what a service needs.
 #[tactic(auto, using(crate::proofs::LineLemmas::needs_line))]
 pub(crate) fn push_needs(out: &mut Vec<u8>, names: &Names, needs: &[u16]) -> Result<(), NoMem>
     requires { All (λ id. id < length names.now) needs.now }
@@ -66,7 +66,8 @@ pub(crate) fn push_needs(out: &mut Vec<u8>, names: &Names, needs: &[u16]) -> Res
     Ok(())
 }
 
-/// A bundle: its name, and those of its services. Out of memory, the bytes stay as they were.
+/// Appends the line of a bundle: its name, and those of its services. If memory runs out, the bytes
+/// stay as they were.
 #[tactic(auto, using(crate::proofs::LineLemmas::bundle_line))]
 pub fn push_bundle(
     alloc: Global,
@@ -92,8 +93,8 @@ pub fn push_bundle(
     Err(AllocError)
 }
 
-/// The names of the services of a set, a space before each. Out of memory, the bytes stay as they
-/// were.
+/// Appends the names of the services of a set, with a space before each. If memory runs out, the
+/// bytes stay as they were.
 pub fn push_set(alloc: Global, out: &mut Vec<u8>, names: &Names, set: &Set) -> Result<(), NoMem>
     requires { length set.now ≡ length names.now }
     ensures written { OnOk result (out.new.items ≡ out.old.items
@@ -107,7 +108,7 @@ pub fn push_set(alloc: Global, out: &mut Vec<u8>, names: &Names, set: &Set) -> R
     Ok(())
 }
 
-/// What follows the needs of a service.
+/// Appends the lines that follow the needs of a service.
 pub(crate) fn push_body(
     alloc: Global,
     out: &mut Vec<u8>,
@@ -127,7 +128,7 @@ pub(crate) fn push_body(
     }
 }
 
-// What a longrun feeds.
+// Appends the line of what a longrun feeds.
 fn push_producer(out: &mut Vec<u8>, names: &Names, producer_for: Option<u16>) -> Result<(), NoMem>
     requires { IfSome producer_for (λ id. id < length names.now) }
     ensures { OnOk result (out.new.items ≡ out.old.items
@@ -136,7 +137,7 @@ fn push_producer(out: &mut Vec<u8>, names: &Names, producer_for: Option<u16>) ->
     push_line(out, b"producer", fed_word(names, producer_for))
 }
 
-// The name of what is fed, or a dash.
+// Returns the name of the longrun that is fed, or a dash if there is none.
 fn fed_word<'a>(names: &'a Names, producer_for: Option<u16>) -> &'a [u8]
     requires { IfSome producer_for (λ id. id < length names.now) }
     ensures { result.now ≡ text.or_dash (option_map (name_at names.now) producer_for) }
@@ -147,7 +148,7 @@ fn fed_word<'a>(names: &'a Names, producer_for: Option<u16>) -> &'a [u8]
     }
 }
 
-// The name of a service, as bytes.
+// Returns the name of a service, as bytes.
 fn word_at(names: &Names, id: u16) -> &[u8]
     requires { id < length names.now }
     ensures { result.now ≡ name_at names.now id }
@@ -155,7 +156,7 @@ fn word_at(names: &Names, id: u16) -> &[u8]
     names.name_of(id).text().as_bytes()
 }
 
-// The text for the way up of a oneshot, empty where there is none.
+// Appends the text of a oneshot for the way up, which is empty if there is none.
 fn push_up(alloc: Global, out: &mut Vec<u8>, text: &Option<String>) -> Result<(), NoMem>
     ensures { OnOk result (out.new.items ≡ out.old.items
         ++ spell (OfUp (unwrap_or (option_map string_bytes text.now) []))) }
@@ -166,7 +167,7 @@ fn push_up(alloc: Global, out: &mut Vec<u8>, text: &Option<String>) -> Result<()
     }
 }
 
-// The text for the way down of a oneshot, or a dash.
+// Appends the text of a oneshot for the way down, or a dash if there is none.
 fn push_down(alloc: Global, out: &mut Vec<u8>, text: &Option<String>) -> Result<(), NoMem>
     ensures { OnOk result (out.new.items ≡ out.old.items
         ++ spell (OfDown (option_map string_bytes text.now))) }
@@ -177,7 +178,7 @@ fn push_down(alloc: Global, out: &mut Vec<u8>, text: &Option<String>) -> Result<
     }
 }
 
-// A text after the line that says how long it is.
+// Appends a text after the line that gives its length.
 fn push_text(alloc: Global, out: &mut Vec<u8>, word: &[u8], text: &[u8]) -> Result<(), NoMem>
     ensures { OnOk result (out.new.items ≡ out.old.items
         ++ (line_of_words (word.now ∷ decimal (length text.now) ∷ []) ++ (text.now ++ 10 ∷ []))) }
@@ -189,7 +190,7 @@ fn push_text(alloc: Global, out: &mut Vec<u8>, word: &[u8], text: &[u8]) -> Resu
     Ok(())
 }
 
-/// A count after its word.
+/// Appends the line of a word and a count.
 pub(crate) fn push_count(
     alloc: Global,
     out: &mut Vec<u8>,
@@ -203,7 +204,7 @@ pub(crate) fn push_count(
     push_line(out, word, number.as_bytes())
 }
 
-/// A line of two words. Out of memory, the bytes stay as they were.
+/// Appends a line of two words. If memory runs out, the bytes stay as they were.
 #[tactic(auto, using(crate::proofs::LineLemmas::two_words))]
 pub fn push_line(out: &mut Vec<u8>, first: &[u8], second: &[u8]) -> Result<(), NoMem>
     ensures written { OnOk result (out.new.items ≡ out.old.items
@@ -219,7 +220,8 @@ pub fn push_line(out: &mut Vec<u8>, first: &[u8], second: &[u8]) -> Result<(), N
     Err(AllocError)
 }
 
-// The names of services, a space before each. Out of memory, the bytes stay as they were.
+// Appends the names of services, with a space before each. If memory runs out, the bytes stay as
+// they were.
 fn push_ids(out: &mut Vec<u8>, names: &Names, ids: &[u16]) -> Result<(), NoMem>
     requires { All (λ id. id < length names.now) ids.now }
     ensures written { OnOk result (out.new.items ≡ out.old.items
@@ -236,7 +238,7 @@ fn push_ids(out: &mut Vec<u8>, names: &Names, ids: &[u16]) -> Result<(), NoMem>
     Ok(())
 }
 
-/// A space and a word. Out of memory, the bytes stay as they were.
+/// Appends a space and a word. If memory runs out, the bytes stay as they were.
 pub fn push_word(out: &mut Vec<u8>, word: &[u8]) -> Result<(), NoMem>
     ensures written { OnOk result (out.new.items ≡ out.old.items ++ 32 ∷ word.now) }
     ensures same { OnErr result (out.new.items ≡ out.old.items) }
@@ -250,7 +252,7 @@ pub fn push_word(out: &mut Vec<u8>, word: &[u8]) -> Result<(), NoMem>
     Ok(())
 }
 
-// How a kind is written.
+// Returns the word that is written for a kind.
 fn kind_word(kind: Kind) -> &'static [u8]
     ensures { result.now ≡ text.kind_word kind }
 {
@@ -261,7 +263,7 @@ fn kind_word(kind: Kind) -> &'static [u8]
     }
 }
 
-// How the flag is written.
+// Returns the word that is written for the flag.
 fn flag_word(essential: bool) -> &'static [u8]
     ensures { result.now ≡ text.flag_word essential }
 {

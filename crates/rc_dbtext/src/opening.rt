@@ -36,12 +36,12 @@ pub enum OpenFault {
 pub struct Opened {
     pub db: Db,
     pub input: Vec<u8>,
-    /// Where that begins in the input which is after the database.
+    /// The offset in `input` of what follows the database.
     pub start: usize,
 }
 
-/// Reads the database, and the whole input. With a base nothing is read before its text is found
-/// right.
+/// Reads the database and the whole input. If there is a base, reads nothing before the base's text
+/// is found right.
 pub fn open<R: Read>(
     alloc: Global,
     base: Option<&[u8]>,
@@ -54,11 +54,11 @@ pub fn open<R: Read>(
         (R.remaining (inner_of reader.old)) (R.remaining (inner_of reader.new))
         (HasFailed reader.new)) }
 
-    // A read that has failed is told as that.
+    // A read that has failed is reported as such.
     ensures told { HasFailed reader.new → HasFailed reader.old
         ⊎ (result ≡ Err (OpenFault.Failed Failure.Read)) }
 
-    // Where the base is wrong the reader is as it was.
+    // If the base is wrong, the reader is as it was.
     ensures first { IsWrongBase (bytes_of base.entry) → reader.new ≡ reader.old }
     ensures taken { ConsumesAtMost (R.remaining (inner_of reader.old))
         (R.remaining (inner_of reader.new)) (MAX_INPUT + 1) }
@@ -95,7 +95,7 @@ fn open_base<R: Read>(
     })
 }
 
-// Reads the whole input, at whose beginning the database stands.
+// Reads the whole input, and the database from its beginning.
 fn open_front<R: Read>(alloc: Global, reader: &mut Noted<R>) -> Result<Opened, OpenFault>
     ensures opened { IfOk result (λ opened. Opens None (R.remaining (inner_of reader.old))
         (R.remaining (inner_of reader.new))
@@ -121,7 +121,7 @@ fn open_front<R: Read>(alloc: Global, reader: &mut Noted<R>) -> Result<Opened, O
     }
 }
 
-// The database of a base.
+// Reads the database of a base.
 fn base_db(alloc: Global, base: &[u8]) -> Result<Db, OpenFault>
     ensures spelled { IfOk result (λ db. IsDatabase db × IsWritable db × (base.now ≡ spelling db)) }
     ensures fault { IfErr result (IsBaseFault base.now) }
@@ -136,7 +136,7 @@ fn base_db(alloc: Global, base: &[u8]) -> Result<Db, OpenFault>
     }
 }
 
-// The whole input.
+// Reads the whole input.
 fn whole_input<R: Read>(alloc: Global, reader: &mut Noted<R>) -> Result<Vec<u8>, OpenFault>
     ensures whole { IfOk result (λ all. ReadsAll (R.remaining (inner_of reader.old))
         (R.remaining (inner_of reader.new)) all.items) }

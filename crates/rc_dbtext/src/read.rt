@@ -19,7 +19,7 @@ use rc_graph::Graph;
 use rc_names::Names;
 use std::alloc::{AllocError, Global};
 
-/// The database whose text the bytes are.
+/// Reads the database whose text is all of the bytes.
 pub fn read_db(alloc: Global, bytes: &[u8]) -> Result<Db, TextFault>
     ensures ok { IfOk result (λ db. IsWritable db × (bytes.now ≡ spelling db)) }
     ensures fault { IfErr result (IsWholeFault bytes.now) }
@@ -34,7 +34,7 @@ pub fn read_db(alloc: Global, bytes: &[u8]) -> Result<Db, TextFault>
     }
 }
 
-// What a text says that is all of the bytes.
+// Parses the text that is all of the bytes.
 fn whole_form<'a>(alloc: Global, bytes: &'a [u8]) -> Result<DbForm<'a>, TextFault>
     ensures ok { IfOk result (λ form. BeginsWith bytes.now form []) }
     ensures fault { IfErr result (IsWholeFault bytes.now) }
@@ -50,7 +50,8 @@ fn whole_form<'a>(alloc: Global, bytes: &'a [u8]) -> Result<DbForm<'a>, TextFaul
     }
 }
 
-/// The database whose text stands at the beginning of the bytes, and how long that text is.
+/// Reads the database whose text stands at the beginning of the bytes. Returns it with the length
+/// of that text.
 pub fn read_db_front(alloc: Global, bytes: &[u8]) -> Result<(Db, usize), TextFault>
     ensures ok { IfOk result (λ read. IsWritable read.0 × (read.1 ≡ length (spelling read.0))
         × ((rest : List ℕ) × (bytes.now ≡ spelling read.0 ++ rest))) }
@@ -66,7 +67,7 @@ pub fn read_db_front(alloc: Global, bytes: &[u8]) -> Result<(Db, usize), TextFau
     }
 }
 
-// A fault of the form, told by where the line begins.
+// Converts a fault of the form into one that says where the line begins.
 fn told(fault: FormFault, bytes: &[u8]) -> TextFault
     requires { HasFormFault bytes.now fault }
     ensures front { IsFrontFault bytes.now result }
@@ -80,7 +81,7 @@ fn told(fault: FormFault, bytes: &[u8]) -> TextFault
     }
 }
 
-// The database of what a text says.
+// Creates the database that a text describes.
 fn db_of(alloc: Global, form: &DbForm<'_>) -> Result<Db, TextFault>
     requires { IsDbText form.now }
     ensures ok { IfOk result (λ db. IsWritable db × (text_of db ≡ form.now)) }
@@ -124,7 +125,7 @@ fn db_of(alloc: Global, form: &DbForm<'_>) -> Result<Db, TextFault>
     }
 }
 
-// The database of what a text says, with its names and its graph.
+// Creates the database that a text describes, from its names and its graph.
 fn joined(alloc: Global, form: &DbForm<'_>, names: Names, graph: Graph) -> Result<Db, NoMem>
     requires text { IsDbText form.now }
     requires sorted { IsSorted form.now }

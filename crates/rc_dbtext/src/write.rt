@@ -9,7 +9,7 @@ use crate::lines::{push_body, push_bundle, push_count, push_head, push_line, pus
 use rc_db::{Db, NoMem};
 use std::alloc::Global;
 
-/// The text of a database. That of a writable one is read back as it.
+/// Returns the text of a database. The text of a writable database reads back as that database.
 pub fn write_db(alloc: Global, db: &Db) -> Result<Vec<u8>, NoMem>
     ensures { IfOk result (λ text. text.items ≡ spelling db.now) }
 {
@@ -21,7 +21,7 @@ pub fn write_db(alloc: Global, db: &Db) -> Result<Vec<u8>, NoMem>
     Ok(out)
 }
 
-// The services after their count.
+// Appends the services after their count.
 fn push_services(alloc: Global, out: &mut Vec<u8>, db: &Db) -> Result<(), NoMem>
     ensures { OnOk result (out.new.items ≡ out.old.items ++ spells (services_part db.now)) }
 {
@@ -34,7 +34,7 @@ fn push_services(alloc: Global, out: &mut Vec<u8>, db: &Db) -> Result<(), NoMem>
     Ok(())
 }
 
-// A service.
+// Appends the lines of a service.
 fn push_service(alloc: Global, out: &mut Vec<u8>, db: &Db, id: u16) -> Result<(), NoMem>
     requires { id < length db.now.names }
     ensures { OnOk result ((text : ServiceText) → slice_get (text_of db.now).services id ≡ Some text
@@ -48,7 +48,7 @@ fn push_service(alloc: Global, out: &mut Vec<u8>, db: &Db, id: u16) -> Result<()
     Ok(())
 }
 
-// The bundles after their count.
+// Appends the bundles after their count.
 fn push_bundles(alloc: Global, out: &mut Vec<u8>, db: &Db) -> Result<(), NoMem>
     ensures { OnOk result (out.new.items ≡ out.old.items ++ spells (bundles_part db.now)) }
 {
@@ -61,7 +61,7 @@ fn push_bundles(alloc: Global, out: &mut Vec<u8>, db: &Db) -> Result<(), NoMem>
     Ok(())
 }
 
-// A bundle.
+// Appends the line of the bundle at a place.
 fn push_bundle_at(alloc: Global, out: &mut Vec<u8>, db: &Db, place: u16) -> Result<(), NoMem>
     requires { place < length db.now.table }
     ensures { OnOk result ((text : BundleText) →

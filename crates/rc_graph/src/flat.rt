@@ -9,7 +9,7 @@ use crate::graph::Row;
 use rc_set::NoMem;
 use std::alloc::Global;
 
-/// The lists in one list, each behind its length.
+/// Returns the lists in one list, each behind its length.
 pub(crate) fn flat_of(alloc: Global, lists: &[Row]) -> Result<Vec<u16>, NoMem>
     requires { AreNeeds (rows lists.now) }
     ensures { IfOk result (λ flat. flat.items ≡ flat_of (rows lists.now)) }
@@ -22,7 +22,7 @@ pub(crate) fn flat_of(alloc: Global, lists: &[Row]) -> Result<Vec<u16>, NoMem>
     Ok(flat)
 }
 
-/// How long that list is: one for each list, and one for each number in it.
+/// Returns the length of the flat list: one for each list, and one for each number in it.
 fn flat_len(lists: &[Row]) -> usize {
     let mut len = lists.len();
     for list in lists {

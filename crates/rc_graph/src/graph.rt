@@ -31,8 +31,8 @@ pub(crate) struct Lists {
     pub(crate) needs: Vec<Row>,
     pub(crate) needed_by: Vec<Row>,
     pub(crate) order: Vec<u16>,
-    /// What each service needs once more, in one list, each behind its length. By it two graphs are
-    /// compared. It takes 2 bytes for each service and pair.
+    /// The needs of all services again, in one list, each behind its length. Two graphs are
+    /// compared by it. It takes 2 bytes for each service and pair.
     pub(crate) flat: Vec<u16>,
 }
 
@@ -51,7 +51,7 @@ impl Model for Graph {
         lists.flat.items };
 }
 
-// Not derived: a crate that lets one go calls this, and proves nothing of its parts.
+// Not derived: a crate that drops a graph calls this, and proves nothing about its parts.
 impl Drop for Graph {
     fn drop(self) {
         let Graph { lists: _ } = self;
@@ -59,7 +59,7 @@ impl Drop for Graph {
 }
 
 impl Graph {
-    /// Another handle to the same graph, which copies nothing. Refused only where the count of
+    /// Returns another handle to the same graph, and copies nothing. Fails only if the count of
     /// handles can grow no more.
     pub fn share(&self) -> Result<Graph, NoMem>
         ensures { IfOk result (λ graph. graph ≡ self.now) }
@@ -68,7 +68,7 @@ impl Graph {
         Ok(Graph { lists })
     }
 
-    /// How many services there are, at most 4,096.
+    /// Returns the number of services, at most 4,096.
     pub fn len(&self) -> u16
         ensures count { result ≡ length self.now }
         ensures lists { AreNeeds self.now }
@@ -77,14 +77,14 @@ impl Graph {
         self.lists.needs.len() as u16
     }
 
-    /// Whether two graphs have as many services, and these need the same.
+    /// Returns true if two graphs have as many services, and each service needs the same in both.
     pub fn same(&self, other: &Graph) -> bool
         ensures { IsTrue result ↔ (self.now ≡ other.now) }
     {
         self.lists.flat.as_slice() == other.lists.flat.as_slice()
     }
 
-    /// What a service needs, ascending.
+    /// Returns the services that a service needs, ascending.
     pub fn needs(&self, service: u16) -> &[u16]
         requires { service < length self.now }
         ensures list { result.now ≡ slice_index_or self.now service [] }
@@ -93,7 +93,7 @@ impl Graph {
         self.lists.needs[service as usize].as_slice()
     }
 
-    /// What needs a service, ascending.
+    /// Returns the services that need a service, ascending.
     pub fn needed_by(&self, service: u16) -> &[u16]
         requires { service < length self.now }
         ensures ascending { IsAscending result.now }
@@ -102,7 +102,7 @@ impl Graph {
         self.lists.needed_by[service as usize].as_slice()
     }
 
-    /// Each service once, after all that it needs.
+    /// Returns each service once, after all that it needs.
     pub fn order(&self) -> &[u16]
         ensures order { IsOrder self.now result.now }
         ensures acyclic { IsAcyclic self.now }
@@ -110,7 +110,7 @@ impl Graph {
         self.lists.order.as_slice()
     }
 
-    /// Whether a set has all that its members need.
+    /// Returns true if a set contains all that its members need.
     pub fn closed(&self, set: &Set) -> bool
         requires { length set.now ≡ length self.now }
         ensures { IsTrue result ↔ IsClosed self.now (Has set.now) }
@@ -118,7 +118,7 @@ impl Graph {
         is_closed(set, &self.lists.needs)
     }
 
-    /// A set with all that its members reach along needs.
+    /// Returns a set with all that its members reach along needs.
     pub fn up_of(&self, alloc: Global, set: &Set) -> Result<Set, NoMem>
         requires { length set.now ≡ length self.now }
         ensures bound { IfOk result (λ closure. length closure ≡ length self.now) }
@@ -127,7 +127,7 @@ impl Graph {
         up_closure(alloc, set, &self.lists)
     }
 
-    /// A set with all that reach one of its members.
+    /// Returns a set with all that reach one of its members.
     pub fn down_of(&self, alloc: Global, set: &Set) -> Result<Set, NoMem>
         requires { length set.now ≡ length self.now }
         ensures bound { IfOk result (λ closure. length closure ≡ length self.now) }

@@ -60,13 +60,14 @@ pub fn steps_back_restore()
     ensures { (h : History) → IsHistory h → StepsBackRestore h }
 {}
 
-/// The same holds forwards.
+/// Steps on that all go well, inside generations and across borders, restore each place that the
+/// history keeps after the current one, in turn: database, live set and bundles.
 pub fn steps_on_restore()
     ensures { (h : History) → IsHistory h → StepsOnRestore h }
 {}
 
-/// If there is a place before the current one, a step back can go well. If there is one after it,
-/// a step on can.
+/// If there is a place before the current one, a step back can go well. If there is a place after
+/// it, a step on can go well.
 pub fn steps_are_possible()
     ensures back { (h : History) → IsHistory h → CanStepBack h }
     ensures on { (h : History) → IsHistory h → CanStepOn h }
@@ -102,7 +103,8 @@ pub fn updates_are_taken_back()
 {}
 
 /// An undo that goes well goes on from passed places, stands on the nearest stop before, and
-/// restores what was there: database, live set and bundles. A redo likewise.
+/// restores what was there: database, live set and bundles. A redo that goes well does the same
+/// forwards.
 pub fn undos_stand_on_stops()
     ensures undo { (h new : History) (marks : List Bool) → IsHistory h → Undoes marks h new →
         StandsBefore marks h new }

@@ -9,7 +9,8 @@ use thiserror::Error;
 /// Why bytes are not the text of a history.
 #[derive(Clone, Copy, PartialEq, Eq, Debug, Error)]
 pub enum HistoryFault {
-    /// The line at this offset has not the form that is due there, or more bytes follow the text.
+    /// The line at this offset does not have the form that is due there, or more bytes follow the
+    /// text.
     #[error("a line has not the form that is due, at byte {0}")]
     Bad(usize),
     /// The first line names another version.
@@ -19,7 +20,7 @@ pub enum HistoryFault {
     Memory,
 }
 
-/// A fault of the text of a history in words.
+/// Returns the words that commands print for a fault of the text of a history.
 pub fn history_word(alloc: Global, fault: HistoryFault) -> Result<Vec<u8>, AllocError>
     ensures { IfOk result (λ text. text.items ≡ history_word fault) }
 {

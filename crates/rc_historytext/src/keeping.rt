@@ -1,6 +1,6 @@
-//! What a command makes of the text of a history: a session in the place of that of the present
-//! generation, with the marks that its states have then, and without what lies beyond a state that
-//! was dropped.
+//! The text of a history after a command. The new session replaces that of the present generation,
+//! the generation gets the marks that its states have then, and generations beyond a dropped state
+//! are dropped.
 //!
 //! Time and memory grow with all bytes.
 ghost use Rattle.std.specs.Prelude.{◌≡◌, ◌↔◌, slice_get, Some, IfOk, IsTrue, OnOk};
@@ -25,15 +25,15 @@ pub enum Keeping {
     Command,
     /// An undo or a redo.
     Way,
-    /// A step of a command of several: its state is passed until that is done, and what comes after
-    /// it is cut off.
+    /// A step of a command that has several. Its state is passed until the command is done, and the
+    /// states after it are cut off.
     Step,
-    /// A seal: the current state alone stays.
+    /// A seal: only the current state stays.
     Seal,
 }
 
-/// The text of a history whose present generation has this session, as a command has left it. A
-/// step that has moved nothing yet cuts nothing off.
+/// Returns the text of a history after a command has left the given session in its present
+/// generation. A step that has moved nothing yet cuts nothing off.
 pub fn keep_session(
     alloc: Global,
     history: &[u8],
@@ -50,7 +50,8 @@ pub fn keep_session(
     }
 }
 
-// The same of a step.
+// Returns the text of a history after a step has left the given session in its present generation.
+// A step cuts off the states after the current one, unless it has moved nothing yet.
 fn keep_step(alloc: Global, history: &[u8], session: &[u8]) -> Result<Vec<u8>, HistoryFault>
     ensures { IfOk result (λ text. IsKeptStep history.now session.now text.items) }
 {
@@ -63,8 +64,8 @@ fn keep_step(alloc: Global, history: &[u8], session: &[u8]) -> Result<Vec<u8>, H
     text
 }
 
-// The text of a history in whose present generation a session is put, unless it stands there
-// already.
+// Returns the text of a history with the given session put into its present generation. If the
+// session is there already, returns a copy of the text.
 fn put_once(
     alloc: Global,
     history: &[u8],
@@ -79,7 +80,7 @@ fn put_once(
     put_session(alloc, history, session, keeping)
 }
 
-// Whether the present session has this text.
+// Returns true if the present session of a history has the given text.
 fn stands_there(alloc: Global, history: &[u8], session: &[u8]) -> Result<bool, HistoryFault>
     ensures { IfOk result (λ stands. IsTrue stands ↔ StandsThere history.now session.now) }
 {
@@ -87,7 +88,7 @@ fn stands_there(alloc: Global, history: &[u8], session: &[u8]) -> Result<bool, H
     Ok(present.session == session)
 }
 
-// The text of a history in whose present generation a session is put.
+// Returns the text of a history with the given session put into its present generation.
 fn put_session(
     alloc: Global,
     history: &[u8],
@@ -106,8 +107,8 @@ fn put_session(
     }
 }
 
-// Puts a session in the place of that of the present generation, and drops what lies beyond a state
-// that is dropped with it.
+// Replaces the session of the present generation, and drops the generations that lie beyond a
+// dropped state.
 fn put<'a>(
     alloc: Global,
     form: &mut HistoryForm<'a>,
@@ -128,7 +129,8 @@ fn put<'a>(
     Ok(())
 }
 
-// The same with these marks.
+// Replaces the session and the marks of the present generation, and drops the generations that lie
+// beyond a dropped state.
 fn put_marked<'a>(form: &mut HistoryForm<'a>, session: &'a [u8], marks: Marks)
     requires text { IsHistoryText form.old }
     requires short { IsShort session.now }
@@ -162,14 +164,14 @@ fn cut_earlier(form: &mut HistoryForm<'_>, is_kept: bool)
     }
 }
 
-/// Whether the length of a text is a number of 32 bits.
+/// Returns true if the length of a text fits in 32 bits.
 pub(crate) fn is_short(text: &[u8]) -> bool
     ensures { IsTrue result ↔ IsShort text.now }
 {
     text.len() < 4_294_967_296
 }
 
-/// The text of a history.
+/// Returns the text of a history, and drops the history.
 pub(crate) fn written(alloc: Global, form: HistoryForm<'_>) -> Result<Vec<u8>, HistoryFault>
     ensures { IfOk result (λ text. text.items ≡ history_text form.entry) }
 {
@@ -181,7 +183,7 @@ pub(crate) fn written(alloc: Global, form: HistoryForm<'_>) -> Result<Vec<u8>, H
     }
 }
 
-// The same bytes.
+// Returns a copy of bytes.
 fn copy(alloc: Global, bytes: &[u8]) -> Result<Vec<u8>, HistoryFault>
     ensures { IfOk result (λ text. text.items ≡ bytes.now) }
 {

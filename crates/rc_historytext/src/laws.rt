@@ -15,19 +15,19 @@ pub fn text_is_unique()
         → history_text a ++ x ≡ history_text b ++ y → a ≡ b }
 {}
 
-/// The text of a history is refused as out of memory alone: what was written is read back.
+/// The text of a history is refused only if memory runs out: what was written is read back.
 pub fn text_is_not_refused()
     ensures { (t : HistoryText) (fault : HistoryFault) → IsHistoryText t
         → IsHistoryFault (history_text t) fault → fault ≡ Memory }
 {}
 
-/// What refuses bytes is one, out of memory aside.
+/// Bytes are refused for one fault only, out of memory aside.
 pub fn faults_are_one()
     ensures { (bytes : List ℕ) (a b : HistoryFault) → IsHistoryFault bytes a
         → IsHistoryFault bytes b → a ≢ Memory → b ≢ Memory → a ≡ b }
 {}
 
-/// The texts of the present generation stand behind what is before them.
+/// The texts of the present generation stand at the offsets that are reported for them.
 pub fn texts_stand_where_they_are_told()
     ensures database { (t : HistoryText) (g : GenerationText)
         → slice_get t.generations t.present ≡ Some g

@@ -16,17 +16,17 @@ use rc_dbtext::lexer::{
     NameWord, Words, argument, arguments, is, number_line, number_of, words_of,
 };
 
-/// The most generations.
+/// The maximum number of generations.
 pub(crate) const MAX_GENERATIONS: u32 = 8;
 
 /// Why reading ends early.
 pub enum LineFault {
-    /// A line that is due is missing. So many bytes are left from it on.
+    /// A line that is due is missing. Holds the number of bytes from there to the end.
     Missing(usize),
     Memory,
 }
 
-/// What follows the first line.
+/// Reads the first line and returns the bytes after it.
 pub(crate) fn first_line(bytes: &[u8]) -> Result<&[u8], HistoryFault>
     ensures ok { IfOk result (λ rest. Stands bytes.now First rest.now) }
     ensures fault { IfErr result (IsHistoryFault bytes.now) }
@@ -41,7 +41,8 @@ pub(crate) fn first_line(bytes: &[u8]) -> Result<&[u8], HistoryFault>
     }
 }
 
-/// The place of the present generation, how many there are, and what follows.
+/// Reads the line of the present generation's place. Returns the place, the number of generations,
+/// and the bytes after the line.
 pub(crate) fn place_line(bytes: &[u8]) -> Option<(u32, u32, &[u8])>
     ensures { MatchOption result (NoneDue AtPlace bytes.now)
         (λ read. (read.0 < read.1) × (read.1 ≤ 8)
@@ -56,7 +57,7 @@ pub(crate) fn place_line(bytes: &[u8]) -> Option<(u32, u32, &[u8])>
     Some((present, count, rest))
 }
 
-// The place of the present generation, and how many there are.
+// Parses words into the place of the present generation and the number of generations.
 fn place_of(words: Words<'_>) -> Option<(u32, u32)>
     ensures { MatchOption result
         ((present count : ℕ) → present < count → count ≤ 8
@@ -76,7 +77,7 @@ fn place_of(words: Words<'_>) -> Option<(u32, u32)>
     below(present, count)
 }
 
-// Two numbers, the first below the second one.
+// Parses two numbers, of which the first must be below the second.
 fn below(present: &str, count: &str) -> Option<(u32, u32)>
     ensures { MatchOption result
         ((n m : ℕ) → n < m → m ≤ 8 → present.now ≡ decimal n → count.now ≡ decimal m → ⊥)
@@ -97,7 +98,8 @@ fn below(present: &str, count: &str) -> Option<(u32, u32)>
     }
 }
 
-/// Whether the first and the last state of a generation are passed, and what follows.
+/// Reads the line of a generation's marks. Returns whether its first and its last state are passed,
+/// and the bytes after the line.
 pub(crate) fn marks_line(bytes: &[u8]) -> Option<(bool, bool, &[u8])>
     ensures { MatchOption result
         ((oldest : Bool) (more : ℕ) → NoneDue (AtMarks oldest more) bytes.now)
@@ -115,7 +117,7 @@ pub(crate) fn marks_line(bytes: &[u8]) -> Option<(bool, bool, &[u8])>
     Some((first, last, rest))
 }
 
-// What two marks say.
+// Parses the words of two marks.
 fn both_marks(first: &str, last: &str) -> Option<(bool, bool)>
     ensures { MatchOption result
         ((a b : Bool) → first.now ≡ mark_word a → last.now ≡ mark_word b → ⊥)
@@ -130,7 +132,7 @@ fn both_marks(first: &str, last: &str) -> Option<(bool, bool)>
     Some((first, last))
 }
 
-// What a mark says.
+// Parses the word of a mark. Returns true for a passed state and false for a stop.
 fn mark_of(word: &str) -> Option<bool>
     ensures { MatchOption result ((passed : Bool) → word.now ≡ mark_word passed → ⊥)
         (λ passed. word.now ≡ mark_word passed) }
@@ -144,7 +146,8 @@ fn mark_of(word: &str) -> Option<bool>
     }
 }
 
-/// The text after a line of this word that says how long it is, and what follows.
+/// Reads a line of the given word and a length, and the text of that length after it. Returns the
+/// text and the bytes after it.
 pub(crate) fn text_line<'a>(bytes: &'a [u8], word: &str) -> Option<(&'a [u8], &'a [u8])>
     requires { IsPlain word.now }
     ensures { MatchOption result (HasNoBlock word.now bytes.now)
@@ -165,7 +168,7 @@ pub(crate) fn text_line<'a>(bytes: &'a [u8], word: &str) -> Option<(&'a [u8], &'
     Some((text, behind))
 }
 
-// So many bytes in front, and what follows them.
+// Splits bytes after the given length, if there are that many.
 fn cut(bytes: &[u8], long: usize) -> Option<(&[u8], &[u8])>
     ensures { MatchOption result
         ((text rest : List ℕ) → length text ≡ long → bytes.now ≡ text ++ rest → ⊥)
@@ -177,7 +180,8 @@ fn cut(bytes: &[u8], long: usize) -> Option<(&[u8], &[u8])>
     Some((&bytes[..long], &bytes[long..]))
 }
 
-/// How many renames a generation has, and what follows. The oldest one has none.
+/// Reads the line of a generation's number of renames. Returns the number and the bytes after the
+/// line. The oldest generation has no renames.
 pub(crate) fn count_line(bytes: &[u8], is_oldest: bool) -> Option<(u32, &[u8])>
     ensures { MatchOption result ((more : ℕ) → NoneDue (AtCount is_oldest more) bytes.now)
         (λ read. (read.0 ≤ most_renames is_oldest)
@@ -195,14 +199,14 @@ pub(crate) fn count_line(bytes: &[u8], is_oldest: bool) -> Option<(u32, &[u8])>
     Some((count, rest))
 }
 
-// How many renames a generation may have.
+// Returns the maximum number of renames of a generation.
 fn most_renames(is_oldest: bool) -> u32
     ensures { result ≡ most_renames is_oldest }
 {
     if is_oldest { 0 } else { 4096 }
 }
 
-/// A rename, and what follows.
+/// Reads the line of a rename. Returns the rename and the bytes after the line.
 pub(crate) fn rename_line(bytes: &[u8]) -> Option<(RenameForm<'_>, &[u8])>
     ensures { MatchOption result ((left more : ℕ) → NoneDue (AtRename left more) bytes.now)
         (λ read. IsRename read.0 × Stands bytes.now (OfRename read.0) read.1.now) }
@@ -219,7 +223,7 @@ pub(crate) fn rename_line(bytes: &[u8]) -> Option<(RenameForm<'_>, &[u8])>
     Some((rename, rest))
 }
 
-// Two words as a rename.
+// Parses two words into a rename.
 fn rename_of<'a>(old: &'a str, new: &'a str) -> Option<RenameForm<'a>>
     ensures { MatchOption result
         ((r : RenameText) → IsRename r → old.now ≡ r.old → new.now ≡ r.new → ⊥)
@@ -234,7 +238,7 @@ fn rename_of<'a>(old: &'a str, new: &'a str) -> Option<RenameForm<'a>>
     Some(RenameForm { old, new })
 }
 
-// The two words after this word, where there are two.
+// Returns the two words after the given first word, if there are exactly two.
 fn two_arguments<'a>(words: Words<'a>, word: &str) -> Option<(&'a str, &'a str)>
     ensures { MatchOption result
         ((a b : List ℕ) → words.entry ≡ word.now ∷ a ∷ b ∷ [] → ⊥)
@@ -249,7 +253,7 @@ fn two_arguments<'a>(words: Words<'a>, word: &str) -> Option<(&'a str, &'a str)>
     }
 }
 
-/// What follows the last line.
+/// Reads the last line and returns the bytes after it.
 pub(crate) fn last_line(bytes: &[u8]) -> Option<&[u8]>
     ensures { MatchOption result (NoneDue AtLast bytes.now)
         (λ rest. Stands bytes.now Last rest.now) }

@@ -21,7 +21,7 @@ pub(crate) struct Marks {
     pub keeps_last: bool,
 }
 
-/// The marks of a generation into which a session is put.
+/// Returns the marks of a generation after a session is put into it.
 pub(crate) fn marks_of(
     alloc: Global,
     generation: &GenerationForm<'_>,
@@ -43,7 +43,7 @@ pub(crate) fn marks_of(
     Ok(marks)
 }
 
-// The same of what both sessions say.
+// Returns the marks of a generation after a command has led from its old session to a new one.
 fn marks_between(
     generation: &GenerationForm<'_>,
     old: &LiveForm<'_>,
@@ -71,7 +71,7 @@ fn marks_between(
     }
 }
 
-// Whether the oldest state is still there.
+// Returns true if a command keeps the oldest state.
 fn keeps_first(keeping: Keeping, old: &LiveForm<'_>, new: &LiveForm<'_>) -> bool
     ensures { IsTrue result ↔ KeepsFirst keeping old.now new.now }
 {
@@ -81,7 +81,7 @@ fn keeps_first(keeping: Keeping, old: &LiveForm<'_>, new: &LiveForm<'_>) -> bool
     }
 }
 
-// Whether the newest state is still there.
+// Returns true if a command keeps the newest state.
 fn keeps_last(keeping: Keeping, old: &LiveForm<'_>, new: &LiveForm<'_>) -> bool
     ensures { IsTrue result ↔ KeepsLast keeping old.now new.now }
 {
@@ -91,7 +91,7 @@ fn keeps_last(keeping: Keeping, old: &LiveForm<'_>, new: &LiveForm<'_>) -> bool
     }
 }
 
-// The mark of the first state.
+// Returns the mark of the first state after a command.
 fn first_mark(keeping: Keeping, mark: bool, old: &LiveForm<'_>) -> bool
     ensures { result ≡ first_mark keeping mark old.now }
 {
@@ -101,7 +101,7 @@ fn first_mark(keeping: Keeping, mark: bool, old: &LiveForm<'_>) -> bool
     }
 }
 
-// The mark of the last state.
+// Returns the mark of the last state after a command.
 fn last_mark(keeping: Keeping, is_back: bool, mark: bool) -> bool
     ensures { result ≡ last_mark keeping is_back mark }
 {
@@ -112,7 +112,7 @@ fn last_mark(keeping: Keeping, is_back: bool, mark: bool) -> bool
     }
 }
 
-// Whether the only state has the mark of the first.
+// Returns true if the only state left has the mark of the first state.
 fn comes_back(keeping: Keeping, is_back: bool) -> bool
     ensures { result ≡ comes_back keeping is_back }
 {
@@ -122,14 +122,14 @@ fn comes_back(keeping: Keeping, is_back: bool) -> bool
     }
 }
 
-/// Whether no state comes before the current one.
+/// Returns true if no state comes before the current one.
 pub(crate) fn is_first(form: &LiveForm<'_>) -> bool
     ensures { result ≡ is_first form.now }
 {
     form.before.is_empty()
 }
 
-/// Whether none comes after it.
+/// Returns true if no state comes after the current one.
 pub(crate) fn is_last(form: &LiveForm<'_>) -> bool
     ensures { result ≡ is_last form.now }
 {

@@ -1,5 +1,5 @@
-//! Laws of the moves, each the contract of a function that does nothing: what is done on the text
-//! is done in the history that it tells.
+//! Laws of the moves, each the contract of a function that does nothing. A move on the text of a
+//! history is the same move on the history that the text describes.
 ghost use Rattle.std.specs.Prelude.{◌≡◌, ◌≢◌, ◌+◌, ◌<◌, ℕ, Bool, [], List, length, map};
 ghost use Rattle.rc_model.specs.Database.{Database};
 ghost use Rattle.rc_history.specs.History.{History, IsHistory};
@@ -11,7 +11,7 @@ ghost use Rattle.rc_historytext.specs.Moves.{begun, crossed_back, crossed_on, wi
 ghost use Rattle.rc_historytext.specs.Moves.{with_session, without_earlier, without_oldest};
 ghost use Rattle.rc_historytext.specs.Telling.{IsMovedInside, Tells, TellsStates, conversion_of};
 
-/// Each move leaves what has a text.
+/// Each move leaves a history that has a text.
 pub fn moves_keep_texts()
     ensures back { (t : HistoryText) → IsHistoryText t → IsHistoryText (crossed_back t) }
     ensures on { (t : HistoryText) → IsHistoryText t → t.present + 1 < length t.generations
@@ -26,7 +26,8 @@ pub fn moves_keep_texts()
         → IsHistoryText (begun t g) }
 {}
 
-/// A border is crossed back from the first state of the present generation, and on from its last.
+/// A history crosses a border back from the first state of its present generation, and on from its
+/// last state.
 pub fn borders_are_crossed()
     ensures back { (t : HistoryText) (h : History) → IsHistory h → Tells t h → 0 < t.present
         → h.present.line.before ≡ []
@@ -36,8 +37,8 @@ pub fn borders_are_crossed()
         → (next : History) × Tells (crossed_on t) next × IsAcross h next }
 {}
 
-/// A command of the present generation puts another line in the place of its own, and drops the
-/// generations that lie beyond a dropped state.
+/// A command of the present generation replaces its line, and drops the generations that lie beyond
+/// a dropped state.
 pub fn commands_replace_sessions()
     ensures all { (t : HistoryText) (session : List ℕ) (first last : Bool) (h new : History)
         → Tells t h → IsMovedInside h new session → new.earlier ≡ h.earlier → new.later ≡ h.later
@@ -53,7 +54,7 @@ pub fn commands_replace_sessions()
         → Tells (without_earlier (without_later (with_session t session first last))) new }
 {}
 
-/// The oldest generation and the later ones are dropped.
+/// Dropping the oldest generation of a text, or the later ones, drops them from the history.
 pub fn ends_are_dropped()
     ensures oldest { (t : HistoryText) (h new : History) → Tells t h → DropsOldest h new
         → Tells (without_oldest t) new }
@@ -61,8 +62,9 @@ pub fn ends_are_dropped()
         → Tells (without_later t) new }
 {}
 
-/// An update enters its database, if the text of the present generation is without what comes after
-/// its current state. Where there are eight before it, the oldest one is dropped.
+/// An update enters its database, if no state comes after the current one in the text of the
+/// present generation. If there are eight generations before the new one, the oldest one is
+/// dropped.
 pub fn updates_begin_generations()
     ensures room { (t : HistoryText) (g : GenerationText) (d : Database) (h new : History)
         → Tells t (record h { present = cut_after h.present })

@@ -46,7 +46,7 @@ impl<'a> HistoryForm<'a> {
         }
     }
 
-    /// Gives the present generation another session, and other marks.
+    /// Replaces the session and the marks of the present generation.
     pub fn replace(&mut self, session: &'a [u8], first_passed: bool, last_passed: bool)
         requires { self.old.present < length self.old.generations }
         ensures put { self.new ≡ with_session self.old session.now first_passed last_passed }
@@ -72,8 +72,8 @@ impl<'a> HistoryForm<'a> {
         self.present -= 1;
     }
 
-    /// Begins a generation after the present one, in the place of those that came after it. The
-    /// oldest of eight is dropped.
+    /// Begins a generation after the present one, in place of those that came after it. Drops the
+    /// oldest one if there would be nine.
     pub fn begin(self, next: GenerationForm<'a>) -> Result<HistoryForm<'a>, AllocError>
         requires { IsHistoryText self }
         ensures { IfOk result (λ form. form ≡ begun self.entry next.entry) }
@@ -86,7 +86,7 @@ impl<'a> HistoryForm<'a> {
         Ok(form)
     }
 
-    // Drops the oldest of eight generations.
+    // Drops the oldest generation if there are eight.
     fn make_room(&mut self)
         requires few { length self.old.generations ≤ 8 }
         requires last { self.old.present + 1 ≡ length self.old.generations }
@@ -98,7 +98,7 @@ impl<'a> HistoryForm<'a> {
     }
 }
 
-// A generation with another session, and other marks.
+// Replaces the session and the marks of a generation.
 fn put_session<'a>(
     generation: &mut GenerationForm<'a>,
     session: &'a [u8],
@@ -116,7 +116,7 @@ fn put_session<'a>(
     generation.last_passed = last_passed;
 }
 
-// A generation to which no update led.
+// Removes the renames of a generation, as if no update had led to it.
 fn forget_renames(generation: &mut GenerationForm<'_>)
     ensures { generation.new ≡ record generation.old { renames = [] } }
 {

@@ -1,5 +1,5 @@
-//! Where the texts of the present generation stand in the text of a history, so that a fault in one
-//! of them can be told by its offset in the whole.
+//! The offsets of the present generation's texts in the text of a history, so that a fault in one
+//! of them can be reported by its offset in the whole.
 //!
 //! What stands before is written once more: time and memory grow with it.
 ghost use Rattle.std.specs.Prelude.{◌≡◌, ◌<◌, ◌++◌, ◌∷◌, [], length, slice_get, Some, IfOk, OnOk};
@@ -13,7 +13,7 @@ use rc_dbtext::push_line;
 use std::alloc::{AllocError, Global};
 
 impl<'a> HistoryForm<'a> {
-    /// The offset of the present generation's database.
+    /// Returns the offset of the present generation's database in the text of the history.
     pub fn database_offset(&self, alloc: Global) -> Result<usize, AllocError>
         requires { self.now.present < length self.now.generations }
         ensures { IfOk result (λ at. (g : GenerationText)
@@ -27,7 +27,7 @@ impl<'a> HistoryForm<'a> {
         Ok(out.len())
     }
 
-    /// The offset of the present generation's session.
+    /// Returns the offset of the present generation's session in the text of the history.
     pub fn session_offset(&self, alloc: Global) -> Result<usize, AllocError>
         requires { self.now.present < length self.now.generations }
         ensures { IfOk result (λ at. (g : GenerationText)
@@ -41,7 +41,8 @@ impl<'a> HistoryForm<'a> {
         Ok(out.len())
     }
 
-    // The lines before the present generation, and those of these marks and this database.
+    // Returns the lines before the present generation, and the lines of the given generation's
+    // marks and database.
     fn lines_to_database(
         &self,
         alloc: Global,
@@ -57,7 +58,8 @@ impl<'a> HistoryForm<'a> {
         Ok(out)
     }
 
-    // The lines before the present generation, and that of these marks.
+    // Returns the lines before the present generation, and the line of the given generation's
+    // marks.
     fn lines_to_marks(
         &self,
         alloc: Global,

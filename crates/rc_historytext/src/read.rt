@@ -18,7 +18,7 @@ use crate::lines::{
 };
 use std::alloc::Global;
 
-/// The history whose text the bytes are.
+/// Parses the text of a history, which must be all of the bytes.
 pub fn read_history<'a>(alloc: Global, bytes: &'a [u8]) -> Result<HistoryForm<'a>, HistoryFault>
     ensures ok { IfOk result (λ form. IsHistoryText form × (bytes.now ≡ history_text form)) }
     ensures fault { IfErr result (IsHistoryFault bytes.now) }
@@ -39,7 +39,7 @@ pub fn read_history<'a>(alloc: Global, bytes: &'a [u8]) -> Result<HistoryForm<'a
     }
 }
 
-// The history whose lines follow the first one, and what follows them.
+// Parses the lines of a history after the first one. Returns the history and the bytes after it.
 fn history_after<'a>(
     alloc: Global,
     bytes: &'a [u8],
@@ -64,7 +64,8 @@ fn history_after<'a>(
     ))
 }
 
-// So many generations, the first of them the oldest, and what follows them.
+// Parses `count` generations, of which the first is the oldest. Returns them and the bytes after
+// them.
 fn generations_of<'a>(
     alloc: Global,
     bytes: &'a [u8],
@@ -88,7 +89,7 @@ fn generations_of<'a>(
     Ok((generations, rest))
 }
 
-// A generation, and what follows it.
+// Parses a generation. Returns it and the bytes after it.
 fn generation_of<'a>(
     alloc: Global,
     bytes: &'a [u8],
@@ -123,7 +124,8 @@ fn generation_of<'a>(
     ))
 }
 
-// The renames of a generation after their count, and what follows them.
+// Parses the number of renames of a generation, and the renames after it. Returns them and the
+// bytes after them.
 fn renames_of<'a>(
     alloc: Global,
     bytes: &'a [u8],
@@ -143,7 +145,7 @@ fn renames_of<'a>(
     Ok((renames, behind))
 }
 
-// So many renames, and what follows them.
+// Parses `count` renames. Returns them and the bytes after them.
 fn so_many_renames<'a>(
     alloc: Global,
     bytes: &'a [u8],

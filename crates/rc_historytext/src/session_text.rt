@@ -1,4 +1,4 @@
-//! From what a session says to its text.
+//! From the form of a session to its text.
 ghost use Rattle.std.specs.Prelude.{◌≡◌, ◌++◌, ◌∷◌, false, map, None, Some, IfOk, OnOk};
 ghost use Rattle.std.specs.List.{flat_map};
 ghost use Rattle.rc_dbtext.specs.Words.{line_of_words};
@@ -15,7 +15,7 @@ use rc_dbtext::{push_line, push_word};
 use rc_livetext::{LiveForm, StateForm};
 use std::alloc::{AllocError, Global};
 
-/// The text of a session without the states after the current one.
+/// Returns the text of a session without the states after the current one.
 pub(crate) fn cut_session(alloc: Global, session: &[u8]) -> Result<Vec<u8>, HistoryFault>
     ensures { IfOk result (λ cut. Cuts session.now cut.items) }
 {
@@ -29,7 +29,7 @@ pub(crate) fn cut_session(alloc: Global, session: &[u8]) -> Result<Vec<u8>, Hist
     }
 }
 
-// The text of what a session says.
+// Returns the text of a session, given its form.
 fn write_session(alloc: Global, form: &LiveForm<'_>) -> Result<Vec<u8>, AllocError>
     ensures { IfOk result (λ text. text.items ≡ live_text form.now) }
 {
@@ -42,7 +42,7 @@ fn write_session(alloc: Global, form: &LiveForm<'_>) -> Result<Vec<u8>, AllocErr
     Ok(out)
 }
 
-// The lines in front of the states.
+// Appends the lines before the states.
 fn push_head(
     alloc: Global,
     out: &mut Vec<u8>,
@@ -58,7 +58,7 @@ fn push_head(
     }
 }
 
-// The same where the number of states is bounded.
+// Appends the lines before the states, with a bound on the number of states.
 fn push_bounded(
     alloc: Global,
     out: &mut Vec<u8>,
@@ -74,7 +74,7 @@ fn push_bounded(
     Ok(())
 }
 
-// The same in the older form, which says no bound.
+// Appends the lines before the states in the older form, which has no bound.
 fn push_unbounded(out: &mut Vec<u8>, services: &[NameWord<'_>]) -> Result<(), AllocError>
     ensures { OnOk result (out.new.items
         ≡ out.old.items ++ spells spell (head_lines services.now None)) }
@@ -84,7 +84,7 @@ fn push_unbounded(out: &mut Vec<u8>, services: &[NameWord<'_>]) -> Result<(), Al
     Ok(())
 }
 
-// The line of how many states there may be.
+// Appends the line of the bound on the number of states.
 fn push_bound(alloc: Global, out: &mut Vec<u8>, bound: u32) -> Result<(), AllocError>
     ensures { OnOk result (out.new.items ≡ out.old.items ++ spell (OfBound bound)) }
 {
@@ -92,7 +92,7 @@ fn push_bound(alloc: Global, out: &mut Vec<u8>, bound: u32) -> Result<(), AllocE
     push_line(out, b"bound", number.as_bytes())
 }
 
-// The lines of states that are not the current one.
+// Appends the lines of states that are not the current one.
 fn push_states(out: &mut Vec<u8>, states: &[StateForm<'_>]) -> Result<(), AllocError>
     ensures { OnOk result (out.new.items
         ≡ out.old.items ++ spells spell (flat_map (state_lines false) states.now)) }
@@ -103,7 +103,7 @@ fn push_states(out: &mut Vec<u8>, states: &[StateForm<'_>]) -> Result<(), AllocE
     Ok(())
 }
 
-// The lines of a state.
+// Appends the lines of a state.
 fn push_state(out: &mut Vec<u8>, is_current: bool, state: &StateForm<'_>) -> Result<(), AllocError>
     ensures { OnOk result (out.new.items
         ≡ out.old.items ++ spells spell (state_lines is_current state.now)) }
@@ -113,14 +113,14 @@ fn push_state(out: &mut Vec<u8>, is_current: bool, state: &StateForm<'_>) -> Res
     Ok(())
 }
 
-// How the line of a state begins.
+// Returns the first word of the line of a state.
 fn word_of(is_current: bool) -> &'static [u8]
     ensures { result.now ≡ state_word is_current }
 {
     if is_current { b"now" } else { b"up" }
 }
 
-// The lines of bundles.
+// Appends the lines of bundles.
 fn push_bundles(out: &mut Vec<u8>, bundles: &[BundleForm<'_>]) -> Result<(), AllocError>
     ensures { OnOk result (out.new.items
         ≡ out.old.items ++ spells spell (map OfBundle bundles.now)) }
@@ -131,7 +131,7 @@ fn push_bundles(out: &mut Vec<u8>, bundles: &[BundleForm<'_>]) -> Result<(), All
     Ok(())
 }
 
-// The line of a bundle.
+// Appends the line of a bundle.
 fn push_bundle(out: &mut Vec<u8>, bundle: &BundleForm<'_>) -> Result<(), AllocError>
     ensures { OnOk result (out.new.items ≡ out.old.items ++ spell (OfBundle bundle.now)) }
 {
@@ -142,7 +142,7 @@ fn push_bundle(out: &mut Vec<u8>, bundle: &BundleForm<'_>) -> Result<(), AllocEr
     Ok(())
 }
 
-// A line of a word and names.
+// Appends a line of a word and names.
 fn push_names(out: &mut Vec<u8>, word: &[u8], names: &[NameWord<'_>]) -> Result<(), AllocError>
     ensures { OnOk result (out.new.items ≡ out.old.items ++ line_of_words (word.now ∷ names.now)) }
 {
@@ -152,7 +152,7 @@ fn push_names(out: &mut Vec<u8>, word: &[u8], names: &[NameWord<'_>]) -> Result<
     Ok(())
 }
 
-// Names, a space before each.
+// Appends names, each after a space.
 fn push_spaced(out: &mut Vec<u8>, names: &[NameWord<'_>]) -> Result<(), AllocError>
     ensures { OnOk result (out.new.items ≡ out.old.items ++ words_after_spaces names.now) }
 {

@@ -1,8 +1,8 @@
 //! Where a history stands: the texts of its present generation, the generations and the states on
 //! both sides, and whether an undo and a redo go on from there.
 //!
-//! Time and memory grow with the lines outside the texts; those of `standing_of` with the text of
-//! the present session, too.
+//! Time and memory grow with the lines outside the texts and, for `standing_of`, also with the text
+//! of the present session.
 ghost use Rattle.std.specs.Prelude.{◌≡◌, ◌||◌, IfErr, IfOk};
 ghost use Rattle.rc_historytext.specs.Faults.{IsHistoryFault};
 ghost use Rattle.rc_historytext.specs.Present.{IsPresent, StandsAt, crosses, has_inside};
@@ -57,21 +57,22 @@ impl<'a> Model for Standing<'a> {
 }
 
 impl Standing<'_> {
-    /// Whether an undo and a redo go on from the current state.
+    /// Returns true if an undo and a redo go on from the current state.
     pub fn is_passed(&self) -> bool
         ensures { result ≡ passes self.now }
     {
         (self.before == 0 && self.first_passed) || (self.after == 0 && self.last_passed)
     }
 
-    /// Whether there is a state before the current one, or after it.
+    /// Returns true if there is a state after the current one (`is_on`) or before it (not `is_on`).
     pub fn has_next(&self, is_on: bool) -> bool
         ensures { result ≡ (has_inside is_on self.now || crosses is_on self.now) }
     {
         self.has_inside(is_on) || self.crosses_behind(is_on)
     }
 
-    /// Whether there is one in the present generation.
+    /// Returns true if the present generation has a state after the current one (`is_on`) or before
+    /// it (not `is_on`).
     pub fn has_inside(&self, is_on: bool) -> bool
         ensures { result ≡ has_inside is_on self.now }
     {
@@ -82,7 +83,8 @@ impl Standing<'_> {
         }
     }
 
-    /// Whether there is a generation before the present one, or after it.
+    /// Returns true if there is a generation after the present one (`is_on`) or before it (not
+    /// `is_on`).
     pub fn crosses_behind(&self, is_on: bool) -> bool
         ensures { result ≡ crosses is_on self.now }
     {
@@ -93,7 +95,8 @@ impl Standing<'_> {
         }
     }
 
-    /// Whether an undo or a redo goes on from the next state in the present generation.
+    /// Returns true if a redo (`is_on`) or an undo (not `is_on`) goes on from the next state in the
+    /// present generation.
     pub fn passes_inside(&self, is_on: bool) -> bool
         ensures { result ≡ passes_next is_on self.now }
     {
@@ -105,12 +108,12 @@ impl Standing<'_> {
     }
 }
 
-/// Whether bytes are to be the text of a history.
+/// Returns true if bytes begin as the text of a history does.
 pub fn is_history(bytes: &[u8]) -> bool {
     bytes.starts_with(b"undorc-history ")
 }
 
-/// The texts of the present generation.
+/// Returns the texts of the present generation of a history.
 pub fn present_of<'a>(alloc: Global, history: &'a [u8]) -> Result<Present<'a>, HistoryFault>
     ensures ok { IfOk result (λ p. IsPresent history.now p.database.now p.session.now) }
     ensures fault { IfErr result (IsHistoryFault history.now) }
@@ -125,7 +128,7 @@ pub fn present_of<'a>(alloc: Global, history: &'a [u8]) -> Result<Present<'a>, H
     Ok(present)
 }
 
-/// Where a history of this text stands.
+/// Returns the standing of a history, given its text.
 pub fn standing_of<'a>(alloc: Global, history: &'a [u8]) -> Result<Standing<'a>, HistoryFault>
     ensures { IfOk result (StandsAt history.now) }
 {

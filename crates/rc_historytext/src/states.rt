@@ -1,4 +1,4 @@
-//! What the text of the session of a generation says: its states, by names.
+//! The states of a generation, by names, as the text of its session gives them.
 //!
 //! Time and memory grow with the text.
 ghost use Rattle.std.specs.Prelude.{◌≡◌, ◌↔◌, IfOk, IsTrue};
@@ -9,7 +9,7 @@ use rc_dbtext::lexer::{BundleForm, NameWord};
 use rc_livetext::{FormFault, LiveForm, StateForm, read_form};
 use std::alloc::Global;
 
-/// How many states come before the current one of a session, and after it.
+/// Returns the numbers of states before and after the current one of a session.
 pub fn states_around(alloc: Global, session: &[u8]) -> Result<(usize, usize), HistoryFault>
     ensures { IfOk result (λ around. StandsBetween session.now around.0 around.1) }
 {
@@ -19,7 +19,7 @@ pub fn states_around(alloc: Global, session: &[u8]) -> Result<(usize, usize), Hi
     Ok(around)
 }
 
-/// What the text of a session says.
+/// Parses the text of a session.
 pub(crate) fn session_form<'a>(
     alloc: Global,
     session: &'a [u8],
@@ -39,7 +39,7 @@ pub(crate) fn session_form<'a>(
     }
 }
 
-/// The oldest state.
+/// Returns the oldest state of a session.
 pub(crate) fn oldest_of<'s, 'a>(form: &'s LiveForm<'a>) -> &'s StateForm<'a>
     ensures { result.now ≡ oldest_state form.now }
 {
@@ -49,7 +49,7 @@ pub(crate) fn oldest_of<'s, 'a>(form: &'s LiveForm<'a>) -> &'s StateForm<'a>
     &form.current
 }
 
-/// The newest state.
+/// Returns the newest state of a session.
 pub(crate) fn newest_of<'s, 'a>(form: &'s LiveForm<'a>) -> &'s StateForm<'a>
     ensures { result.now ≡ newest_state form.now }
 {
@@ -60,14 +60,14 @@ pub(crate) fn newest_of<'s, 'a>(form: &'s LiveForm<'a>) -> &'s StateForm<'a>
     &form.current
 }
 
-/// Whether two states have the same services up, and the same bundles.
+/// Returns true if two states have the same services up, and the same bundles.
 pub(crate) fn are_same(one: &StateForm<'_>, other: &StateForm<'_>) -> bool
     ensures { IsTrue result ↔ (one.now ≡ other.now) }
 {
     are_same_names(&one.live, &other.live) && are_same_bundles(&one.bundles, &other.bundles)
 }
 
-// Whether two lists have the same bundles.
+// Returns true if two lists have the same bundles.
 fn are_same_bundles(one: &[BundleForm<'_>], other: &[BundleForm<'_>]) -> bool
     ensures { IsTrue result ↔ (one.now ≡ other.now) }
 {
@@ -82,14 +82,14 @@ fn are_same_bundles(one: &[BundleForm<'_>], other: &[BundleForm<'_>]) -> bool
     true
 }
 
-// Whether two bundles have one name and the same members.
+// Returns true if two bundles have the same name and the same members.
 fn is_same_bundle(one: &BundleForm<'_>, other: &BundleForm<'_>) -> bool
     ensures { IsTrue result ↔ (one.now ≡ other.now) }
 {
     is_same_name(&one.name, &other.name) && are_same_names(&one.members, &other.members)
 }
 
-// Whether two lists have the same names.
+// Returns true if two lists have the same names.
 fn are_same_names(one: &[NameWord<'_>], other: &[NameWord<'_>]) -> bool
     ensures { IsTrue result ↔ (one.now ≡ other.now) }
 {
@@ -104,7 +104,7 @@ fn are_same_names(one: &[NameWord<'_>], other: &[NameWord<'_>]) -> bool
     true
 }
 
-// Whether two names are one.
+// Returns true if two names are the same.
 fn is_same_name(one: &NameWord<'_>, other: &NameWord<'_>) -> bool
     ensures { IsTrue result ↔ (one.now ≡ other.now) }
 {

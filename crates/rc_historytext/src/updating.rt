@@ -1,5 +1,5 @@
-//! What an update makes of the text of a history, step by step: a generation that begins, a border
-//! that is crossed, and a state that becomes a stop.
+//! The steps of an update on the text of a history: to begin a generation, to cross a border, and
+//! to make a state a stop.
 //!
 //! Time and memory grow with all bytes.
 ghost use Rattle.std.specs.Prelude.{◌≡◌, ◌==◌, ◌&&◌, ◌++◌, ◌∷◌, [], not, if◌then◌else◌};
@@ -22,7 +22,7 @@ use rc_dbtext::lexer::NameWord;
 use rc_update::Conversion;
 use std::alloc::Global;
 
-/// The text of a history of one generation, whose states are stops.
+/// Returns the text of a new history of one generation, whose states are stops.
 pub fn new_history(alloc: Global, database: &[u8], session: &[u8]) -> Result<Vec<u8>, HistoryFault>
     ensures { IfOk result (λ text. IsBegun database.now session.now text.items) }
 {
@@ -45,8 +45,8 @@ pub fn new_history(alloc: Global, database: &[u8], session: &[u8]) -> Result<Vec
     written(alloc, form)
 }
 
-/// The text of a history that an update leads on to a database, in which its session has one state.
-/// That is passed until the update is done.
+/// Returns the text of a history after an update has entered a database, in which its session has
+/// one state. That state is passed until the update is done.
 pub fn enter_generation<'n>(
     alloc: Global,
     history: &[u8],
@@ -63,8 +63,8 @@ pub fn enter_generation<'n>(
     text
 }
 
-/// The text of a history that has crossed the border before its present generation, or after it.
-/// Where there is none it is as it was.
+/// Returns the text of a history that has crossed the border after its present generation (`is_on`)
+/// or before it (not `is_on`). If there is no such border, the text is as it was.
 pub fn cross_border(alloc: Global, history: &[u8], is_on: bool) -> Result<Vec<u8>, HistoryFault>
     ensures { IfOk result (λ text. IsCrossed is_on history.now text.items) }
 {
@@ -73,7 +73,7 @@ pub fn cross_border(alloc: Global, history: &[u8], is_on: bool) -> Result<Vec<u8
     written(alloc, form)
 }
 
-/// The text of a history whose current state is a stop.
+/// Returns the text of a history with its current state made a stop.
 pub fn settle_state(alloc: Global, history: &[u8]) -> Result<Vec<u8>, HistoryFault>
     ensures { IfOk result (λ text. IsSettled history.now text.items) }
 {
@@ -93,7 +93,7 @@ pub fn settle_state(alloc: Global, history: &[u8]) -> Result<Vec<u8>, HistoryFau
     Ok(text)
 }
 
-// Adds a generation.
+// Adds a generation to a list.
 fn push<'a>(
     generations: &mut Vec<GenerationForm<'a>>,
     next: GenerationForm<'a>,
@@ -106,14 +106,15 @@ fn push<'a>(
     }
 }
 
-// The mark of a state that so many others come before, or after, once the current one is a stop.
+// Returns the mark of the first or last state once the current one is a stop, given the number of
+// other states on that side of the current one.
 fn stays(mark: bool, others: usize) -> bool
     ensures { result ≡ (mark && not (others == 0)) }
 {
     mark && others != 0
 }
 
-// Crosses a border, where there is one.
+// Crosses a border, if there is one.
 fn cross(form: &mut HistoryForm<'_>, is_on: bool)
     requires { IsHistoryText form.old }
     ensures { form.new ≡ crossed is_on form.old }
@@ -127,7 +128,7 @@ fn cross(form: &mut HistoryForm<'_>, is_on: bool)
     }
 }
 
-// The text of a history whose present session ends with its current state.
+// Returns the text of a history with its present session cut off after the current state.
 fn leave(alloc: Global, history: &[u8]) -> Result<Vec<u8>, HistoryFault>
     ensures { IfOk result (λ text. IsLeft history.now text.items) }
 {
@@ -138,7 +139,7 @@ fn leave(alloc: Global, history: &[u8]) -> Result<Vec<u8>, HistoryFault>
     left
 }
 
-// The same with the session that is cut.
+// Returns the text of a history with the given cut session in place of the present one.
 fn leave_with(alloc: Global, history: &[u8], cut: &[u8]) -> Result<Vec<u8>, HistoryFault>
     ensures { IfOk result (λ text. LeavesWith history.now cut.now text.items) }
 {
@@ -160,8 +161,8 @@ fn leave_with(alloc: Global, history: &[u8], cut: &[u8]) -> Result<Vec<u8>, Hist
     Ok(text)
 }
 
-// The mark of the last state, once what comes after the current one is cut off: that of the current
-// one.
+// Returns the mark of the last state once the states after the current one are cut off, which is
+// the mark of the current one.
 fn mark_of_cut(first: bool, last: bool, before: usize, after: usize) -> bool
     ensures { result ≡ (if after == 0 then last else (before == 0 && first)) }
 {
@@ -172,7 +173,7 @@ fn mark_of_cut(first: bool, last: bool, before: usize, after: usize) -> bool
     }
 }
 
-// The text of a history in which a generation begins behind the present one.
+// Returns the text of a history with a new generation after the present one.
 fn enter_left<'n>(
     alloc: Global,
     left: &[u8],
@@ -198,7 +199,7 @@ fn enter_left<'n>(
     begun_behind(alloc, left, next)
 }
 
-// The same with the generation.
+// Returns the text of a history with the given generation begun after the present one.
 fn begun_behind(
     alloc: Global,
     left: &[u8],
@@ -219,7 +220,7 @@ fn begun_behind(
     }
 }
 
-// The renames of conversions: a service that is only restarted goes on under its own name.
+// Returns the renames of conversions. A service that is only restarted goes on under its own name.
 fn renames_of<'n>(
     alloc: Global,
     list: &[Conversion<'n>],
@@ -234,7 +235,7 @@ fn renames_of<'n>(
     Ok(renames)
 }
 
-// Adds the rename of a conversion that is one.
+// Adds the rename of a conversion, unless it only restarts a service.
 fn add_rename<'n>(
     renames: &mut Vec<RenameForm<'n>>,
     one: Conversion<'n>,
@@ -253,7 +254,7 @@ fn add_rename<'n>(
     }
 }
 
-// The rename of a conversion.
+// Returns the rename of a conversion.
 fn rename_of<'n>(one: Conversion<'n>) -> Result<RenameForm<'n>, HistoryFault>
     ensures renames { IfOk result (λ rename. rename ≡ rename_of (conversion_of one.entry)) }
     ensures is { IfOk result IsRename }
@@ -264,7 +265,7 @@ fn rename_of<'n>(one: Conversion<'n>) -> Result<RenameForm<'n>, HistoryFault>
     })
 }
 
-// A name by its bytes.
+// Parses a name from its bytes.
 fn name_of(bytes: &[u8]) -> Result<NameWord<'_>, HistoryFault>
     ensures { IfOk result (λ name. (name ≡ bytes.now) × IsName bytes.now) }
 {

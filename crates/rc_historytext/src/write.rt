@@ -11,7 +11,7 @@ use crate::forms::{GenerationForm, HistoryForm, RenameForm};
 use rc_dbtext::{push_line, push_word};
 use std::alloc::{AllocError, Global};
 
-/// The text of a history.
+/// Returns the text of a history.
 pub fn write_history(alloc: Global, form: &HistoryForm<'_>) -> Result<Vec<u8>, AllocError>
     ensures { IfOk result (λ text. text.items ≡ history_text form.now) }
 {
@@ -22,7 +22,7 @@ pub fn write_history(alloc: Global, form: &HistoryForm<'_>) -> Result<Vec<u8>, A
     Ok(out)
 }
 
-/// The first line, and that of the place of the present generation.
+/// Appends the first line and the line of the present generation's place.
 pub(crate) fn push_place(
     alloc: Global,
     out: &mut Vec<u8>,
@@ -39,7 +39,7 @@ pub(crate) fn push_place(
     Ok(())
 }
 
-/// The lines of generations.
+/// Appends the lines of generations.
 pub(crate) fn push_generations(
     alloc: Global,
     out: &mut Vec<u8>,
@@ -54,7 +54,7 @@ pub(crate) fn push_generations(
     Ok(())
 }
 
-// The lines of a generation.
+// Appends the lines of a generation.
 fn push_generation(
     alloc: Global,
     out: &mut Vec<u8>,
@@ -72,7 +72,7 @@ fn push_generation(
     Ok(())
 }
 
-/// The line of a generation's marks.
+/// Appends the line of a generation's marks.
 pub(crate) fn push_marks(
     out: &mut Vec<u8>,
     generation: &GenerationForm<'_>,
@@ -85,14 +85,14 @@ pub(crate) fn push_marks(
     Ok(())
 }
 
-// How a mark is written.
+// Returns the word of a mark.
 fn mark(is_passed: bool) -> &'static [u8]
     ensures { result.now ≡ mark_word is_passed }
 {
     if is_passed { b"passed" } else { b"stop" }
 }
 
-/// A text after the line that says how long it is.
+/// Appends a line with the length of a text, and then the text.
 pub(crate) fn push_text(
     alloc: Global,
     out: &mut Vec<u8>,
@@ -107,7 +107,7 @@ pub(crate) fn push_text(
     Ok(())
 }
 
-// The lines of renames.
+// Appends the lines of renames.
 fn push_renames(out: &mut Vec<u8>, renames: &[RenameForm<'_>]) -> Result<(), AllocError>
     ensures { OnOk result (out.new.items
         ≡ out.old.items ++ spells spell (map OfRename renames.now)) }
@@ -119,7 +119,7 @@ fn push_renames(out: &mut Vec<u8>, renames: &[RenameForm<'_>]) -> Result<(), All
     Ok(())
 }
 
-// A line of a word and others.
+// Appends a line of a first word and others.
 fn push_words(out: &mut Vec<u8>, first: &[u8], others: &[&[u8]]) -> Result<(), AllocError>
     ensures { OnOk result (out.new.items
         ≡ out.old.items ++ line_of_words (first.now ∷ map (λ word. word.now) others.now)) }

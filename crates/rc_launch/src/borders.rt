@@ -1,5 +1,5 @@
-//! Where the steps of an undo or a redo lead, and whether the borders on the way are borders: that
-//! no service has to move where one is crossed.
+//! Where the steps of an undo or a redo lead, and whether the borders on the way are joined: no
+//! service has to move where one is crossed.
 
 use rc_db::Db;
 use rc_dbtext::database_of;
@@ -12,8 +12,8 @@ use rc_set::{NoMem, Set};
 use rc_update::{Conversion, are_carried};
 use std::alloc::Global;
 
-/// Whether an undo or a redo goes on from the state on which a history stands: it is passed, and
-/// there is one behind it.
+/// Returns true if an undo or a redo goes on from the state on which a history stands: it is
+/// passed, and there is one behind it.
 pub(crate) fn goes_on_behind(
     alloc: Global,
     history: &[u8],
@@ -25,8 +25,8 @@ pub(crate) fn goes_on_behind(
     }
 }
 
-/// The first border on the way of an undo or a redo that is none, by the place of the generation
-/// behind it.
+/// Returns the first border on the way of an undo or a redo that is not joined. A border is given
+/// by the place of the generation behind it.
 pub(crate) fn first_unjoined(
     alloc: Global,
     history: &[u8],
@@ -44,7 +44,7 @@ pub(crate) fn first_unjoined(
     found
 }
 
-// The same from where it stands.
+// Returns the first border that is not joined on the way from where a history stands.
 fn unjoined_from(
     alloc: Global,
     form: &HistoryForm<'_>,
@@ -86,8 +86,8 @@ fn unjoined_from(
     Ok(None)
 }
 
-// Whether an undo or a redo that has crossed into a generation crosses the border behind it, too:
-// the state that it reaches is passed, and is its only one or leads to one that is passed.
+// Returns true if an undo or a redo that has crossed into a generation crosses the border behind
+// it, too: the state that it reaches is passed, and is its only one or leads to one that is passed.
 fn reached_goes_on(
     alloc: Global,
     reached: &GenerationForm<'_>,
@@ -102,7 +102,8 @@ fn reached_goes_on(
     Ok(near && far && before.saturating_add(after) <= 1)
 }
 
-// Whether what is live at the end of a generation is what is live at the beginning of the next.
+// Returns true if what is live at the end of a generation is what is live at the beginning of the
+// next.
 fn is_joined(
     alloc: Global,
     old: &GenerationForm<'_>,
@@ -120,7 +121,8 @@ fn is_joined(
     }
 }
 
-// The same with these conversions.
+// Returns true if these conversions carry what is live at the end of a generation to what is live
+// at the beginning of the next.
 fn is_joined_by(
     alloc: Global,
     old: &GenerationForm<'_>,
@@ -152,8 +154,8 @@ fn is_joined_by(
     carried
 }
 
-// The database of a generation, and what is live in its last state or its first. None: its texts
-// are none of a database and a session.
+// Returns the database of a generation, and what is live in its last state or its first. Returns
+// `None` if its texts are not those of a database and a session.
 fn state_at(
     alloc: Global,
     generation: &GenerationForm<'_>,
@@ -181,7 +183,7 @@ fn state_at(
     }
 }
 
-// Renames as conversions.
+// Returns renames as conversions.
 fn conversions<'b>(
     alloc: Global,
     renames: &'b [RenameForm<'_>],

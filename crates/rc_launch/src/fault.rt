@@ -32,7 +32,7 @@ pub enum OpenFault<'a> {
     /// The run log of this file is of a command that was cut short, and no database is named.
     #[error("the run log needs a database")]
     NoBase(&'a str),
-    /// It is of another database.
+    /// The run log of this file is of another database.
     #[error("the run log is of another database")]
     OtherBase(&'a str),
     #[error("out of memory")]

@@ -12,8 +12,8 @@ use std::alloc::{AllocError, Global};
 use std::io::ErrorKind;
 use std::{io, mem};
 
-/// A write that was begun, with what tells what the files held before it, or what a failed one may
-/// have made of them.
+/// A write that was begun, with what the files held before it, or with what a failed write may have
+/// made of them.
 #[derive(Drop)]
 pub(crate) enum Begun {
     /// The file was replaced. It had this text before.
@@ -49,8 +49,8 @@ pub struct HeldFiles<'a> {
 }
 
 impl<'a> HeldFiles<'a> {
-    /// The files of which this was read, while they were locked: whether the log is that of the
-    /// first step of the update that is asked for.
+    /// Creates the held files from what was read of them while they were locked. If
+    /// `is_first_step`, the log is that of the first step of the requested update.
     pub(crate) fn new(
         rt: &'a HostRuntime,
         read: &ReadFiles<'a>,
@@ -84,7 +84,7 @@ impl<'a> HeldFiles<'a> {
         }
     }
 
-    /// Why the call that failed did.
+    /// Returns the error of the call that failed, if there is one.
     pub fn into_error(self) -> Option<io::Error>
         ensures { result ≡ self.entry.error }
     {
@@ -92,7 +92,7 @@ impl<'a> HeldFiles<'a> {
     }
 }
 
-// Copies of what was read of both files.
+// Copies what was read of both files.
 fn copies(alloc: Global, read: &ReadFiles<'_>) -> Result<(Vec<u8>, Vec<u8>), AllocError>
     ensures file { IfOk result (λ both. both.0.items
         ≡ unwrap_or (option_map (λ bytes. bytes.items) read.now.found) []) }
@@ -108,9 +108,9 @@ fn copies(alloc: Global, read: &ReadFiles<'_>) -> Result<(Vec<u8>, Vec<u8>), All
     }
 }
 
-// What the command of a log does to the states of the session. The first step of the update that is
-// asked for leaves a state that is passed, and so does what began on one. An undo or a redo drops
-// none, also where it goes on from a state that is passed.
+// Returns the effect of the command of a log on the states of the session. The first step of the
+// requested update leaves a state that is passed, and so does a command that began on one. An undo
+// or a redo drops no state, even if it goes on from a state that is passed.
 fn keeping_of(alloc: Global, read: &ReadFiles<'_>, is_first_step: bool) -> Keeping {
     let is_passed = match read.history() {
         Some(history) => match standing_of(alloc, history) {
@@ -129,7 +129,7 @@ fn keeping_of(alloc: Global, read: &ReadFiles<'_>, is_first_step: bool) -> Keepi
     }
 }
 
-// Whether the line of a command is an undo or a redo. Its limit may stand before it.
+// Returns true if the line of a command is an undo or a redo. Its timeout may stand before it.
 fn is_way(line: &[u8]) -> bool {
     let mut before: u32 = if line.starts_with(b"-t ") { 2 } else { 0 };
     for word in line.split(|byte| *byte == b' ' || *byte == b'\n') {
@@ -142,7 +142,7 @@ fn is_way(line: &[u8]) -> bool {
 }
 
 impl HeldFiles<'_> {
-    // Puts a text into the file, in the place of the present session where that is a history.
+    // Puts a text into the file, in place of the present session if the file is a history.
     fn put(&self, text: &[u8]) -> io::Result<()> {
         let Some(history) = &self.history else {
             return replace(self.rt, self.path, text);

@@ -1,6 +1,6 @@
 //! The file in which a session is kept, and its lock: the text of a session alone, or a history in
-//! which it is the present one. It is replaced whole. What stands there already is not written
-//! again: that it could be is found out by a file beside it.
+//! which it is the present one. The file is replaced whole. A text that stands there already is not
+//! written again; a file beside it shows that it could be.
 ghost use Rattle.std.specs.Prelude.{◌≡◌, ◌≢◌, ◌↔◌, None, option_map, if◌then◌else◌, IfErr, IfOk};
 ghost use Rattle.std.specs.Prelude.{true, IsSome, IsTrue, OnErr};
 ghost use Rattle.rc_args.specs.Making.{making_ask_of};
@@ -73,9 +73,9 @@ pub struct LiveStore<'a> {
 }
 
 impl<'a> LiveStore<'a> {
-    /// The file of `-l`, where one is named. It is locked where a session is to do something, for
-    /// a program that serves the lines of an input or not, and waited for or not where another
-    /// program holds it.
+    /// Creates the store of the file of `-l`, if one is named. If `moves`, a session is to do
+    /// something, and the file is locked. `waits` says whether to wait for a lock that another
+    /// program holds. `is_of_lines` says whether this program serves the lines of an input.
     pub fn open(
         rt: &'a HostRuntime,
         live: Option<&'a str>,
@@ -108,7 +108,8 @@ impl<'a> LiveStore<'a> {
         })
     }
 
-    /// The same store for a command, of what was found in its file since it was locked.
+    /// Prepares the store for a command, from what was found in its file since it was locked. Fails
+    /// if memory runs out.
     pub fn of(self, opened: &'a Opened<'_>) -> Result<LiveStore<'a>, AllocError>
         ensures path { IfOk result (λ store. store.path ≡ self.entry.path) }
         ensures lock { IfOk result (λ store. store.lock ≡ self.entry.lock) }
@@ -144,14 +145,14 @@ impl<'a> LiveStore<'a> {
         }
     }
 
-    /// Why the file could not be written, if it could not.
+    /// Returns the error for which the file could not be written, if there is one.
     pub fn error(&self) -> Option<&io::Error>
         ensures { option_map (λ error. error.now) result ≡ self.now.error }
     {
         self.error.as_ref()
     }
 
-    /// The text of the history that stands in the file, if one does.
+    /// Returns the text of the history that stands in the file, if one does.
     pub(crate) fn history(&self) -> Option<&[u8]> {
         match &self.frame {
             Frame::History(text) => Some(text),
@@ -177,12 +178,12 @@ impl<'a> LiveStore<'a> {
         self.put_made(settled)
     }
 
-    /// What is kept from now on is what a command does to the states of the session.
+    /// Sets what a command does to the states of the session, for all that is kept from now on.
     pub(crate) fn keep_as(&mut self, keeping: Keeping) {
         self.keeping = keeping;
     }
 
-    // Puts a history there that was made, and notes why that fails.
+    // Puts a history that was made into the file, and notes why that fails.
     fn put_made(&mut self, made: Result<Vec<u8>, HistoryFault>) -> Result<(), KeepFault> {
         let put = match made {
             Ok(whole) => self.put_history(whole),
@@ -191,7 +192,8 @@ impl<'a> LiveStore<'a> {
         self.noted(put)
     }
 
-    // Puts a history there, unless it stands there.
+    // Puts a history into the file. If it stands there already, only tests whether it could be
+    // replaced.
     fn put_history(&mut self, whole: Vec<u8>) -> io::Result<()> {
         let stands = match &self.frame {
             Frame::History(text) => text == &whole,
@@ -220,9 +222,9 @@ impl<'a> LiveStore<'a> {
         }
     }
 
-    // Takes the rights to read from the file that the file of a database does not give, of which
-    // bytes are taken over. A file that is not there yet is made first, with the text of the
-    // session.
+    // Removes from the file those rights to read that the file of a database does not give, since
+    // bytes of that one are taken over. A missing file is made before this call, with the text of
+    // the session.
     fn narrow(&self, source: &str) -> io::Result<()> {
         let (Ok(found), Ok(from)) = (
             fs::metadata(self.rt, self.path),
@@ -238,7 +240,8 @@ impl<'a> LiveStore<'a> {
         Ok(())
     }
 
-    // Puts the text of a session there, alone.
+    // Puts the text of a session into the file, alone. If it stands there already, only tests
+    // whether it could be replaced.
     fn put_alone(&mut self, text: &[u8]) -> io::Result<()> {
         let stands = match &self.frame {
             Frame::Alone(Some(found)) => *found == text,
@@ -252,7 +255,8 @@ impl<'a> LiveStore<'a> {
         replace(self.rt, self.path, text)
     }
 
-    // The text of the history in which this session is the present one. None: it is kept alone.
+    // Returns the text of the history in which this session is the present one. Returns `None` if
+    // the session is kept alone.
     fn framed(&self, text: &[u8]) -> Option<Result<Vec<u8>, HistoryFault>> {
         let alloc = self.rt.alloc();
         match (&self.frame, self.next) {
@@ -281,7 +285,7 @@ impl<'a> LiveStore<'a> {
         }
     }
 
-    /// Whether the file is locked.
+    /// Returns true if the file is locked.
     pub fn is_locked(&self) -> bool
         ensures { IsTrue result ↔ IsLocked self.now }
     {
@@ -291,8 +295,8 @@ impl<'a> LiveStore<'a> {
         }
     }
 
-    /// Makes the files of the runs of a command that is to start programs: those beside the file of
-    /// `-l`, where that is locked.
+    /// Opens the files of the runs of a command that is to start programs, beside the file of `-l`,
+    /// if that is locked.
     pub(crate) fn runs(&self, loaded: &Loaded<'_>) -> Result<Option<Runs<'a>>, RunsFault>
         ensures made { IfOk result
             (AreRunsOf (making_ask_of (session_in loaded.now).making) self.now) }
@@ -334,8 +338,8 @@ impl Store for LiveStore<'_> {
 }
 
 impl LiveStore<'_> {
-    // Makes a file that is not there yet, in which a history is to begin: it is then nobody's but
-    // those who may read the database.
+    // Makes a missing file in which a history is to begin. So only those who may read the database
+    // may ever read the history.
     fn made_first(&self, text: &[u8]) -> io::Result<()> {
         match fs::metadata(self.rt, self.path) {
             Err(error) if error.kind() == ErrorKind::NotFound => {
@@ -345,8 +349,8 @@ impl LiveStore<'_> {
         }
     }
 
-    // Puts a history there that an update has entered or not. The next session that is kept is of
-    // the generation that it has entered.
+    // Puts a history into the file, whether an update has entered its new generation or not. The
+    // next session that is kept belongs to the generation that it has entered.
     fn put_entered(&mut self, whole: Vec<u8>) -> io::Result<()> {
         let source = match self.next {
             Some(next) if self.is_entering => Some(next.source),
@@ -362,7 +366,7 @@ impl LiveStore<'_> {
     }
 }
 
-// Why a history was not made, as a fault of its file.
+// Returns the error of a file for a history that was not made.
 fn history_error(fault: HistoryFault) -> io::Error {
     match fault {
         HistoryFault::Memory => io::Error::from(ErrorKind::OutOfMemory),
@@ -370,8 +374,8 @@ fn history_error(fault: HistoryFault) -> io::Error {
     }
 }
 
-// What the session of a command is kept in: the history that its file has, or a new one with the
-// database of the command where an update begins it.
+// Returns the frame in which the session of a command is kept: the history of its file, or a new
+// history with the database of the command if an update begins one.
 fn frame_of<'a>(alloc: Global, opened: &'a Opened<'_>) -> Result<Frame<'a>, AllocError> {
     if let Some(history) = opened.live().history() {
         return Ok(Frame::History(Vec::from_slice(alloc, history)?));
@@ -382,7 +386,7 @@ fn frame_of<'a>(alloc: Global, opened: &'a Opened<'_>) -> Result<Frame<'a>, Allo
     }
 }
 
-// What a command does to the states of the session.
+// Returns the effect of a command on the states of the session.
 fn keeping_of(command: &SessionCommand<'_>) -> Keeping {
     match command {
         SessionCommand::Update(_) => Keeping::Step,
@@ -396,7 +400,7 @@ fn keeping_of(command: &SessionCommand<'_>) -> Keeping {
     }
 }
 
-// The generation that an update begins.
+// Returns the generation that an update begins.
 fn next_of<'a>(opened: &'a Opened<'_>) -> Option<Next<'a>> {
     match (opened.command(), opened.new_base()) {
         (SessionCommand::Update(request), Some(new)) => Some(Next {
@@ -408,7 +412,7 @@ fn next_of<'a>(opened: &'a Opened<'_>) -> Option<Next<'a>> {
     }
 }
 
-// The file of the database that a history is to begin with.
+// Returns the path of the database that a history is to begin with.
 fn source_of<'a>(opened: &'a Opened<'_>) -> Option<&'a str> {
     match (opened.live().history(), opened.base()) {
         (None, Some(base)) => Some(base.path()),
@@ -416,8 +420,9 @@ fn source_of<'a>(opened: &'a Opened<'_>) -> Option<&'a str> {
     }
 }
 
-// The file that is locked: the one that is named, where a session is to do something. Who only
-// looks takes no lock: the file is replaced whole, so what is read is one text of it.
+// Returns the file that is locked: the one that is named, if a session is to do something. A
+// command that only shows takes no lock: the file is replaced whole, so what is read is one text of
+// it.
 fn locked<'a>(live: Option<&'a str>, moves: bool) -> Option<&'a str>
     ensures { result ≡ (if moves then live.entry else None) }
 {

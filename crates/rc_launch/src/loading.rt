@@ -1,4 +1,4 @@
-//! The databases of a command are read.
+//! Reads the databases of a command.
 ghost use Rattle.std.specs.Prelude.{◌≡◌, ◌↔◌, option_map, IfOk, IsTrue};
 ghost use Rattle.rc_launch.specs.Loading.{IsLoaded, IsOfLines, MovesBy, base_file};
 ghost use Rattle.rc_launch.specs.Loading.{bytes_of, new_file, path_of, session_in};
@@ -31,22 +31,22 @@ pub(crate) struct Loaded<'a> {
 }
 
 impl<'a> Loaded<'a> {
-    /// What is asked of the session.
+    /// Returns the session request of the command.
     pub fn session(&self) -> &SessionRequest<'a>
         ensures { result.now ≡ session_in self.now }
     {
         self.command.session()
     }
 
-    /// Whether the lines of an input are served.
+    /// Returns true if the lines of an input are served.
     pub fn is_of_lines(&self) -> bool
         ensures { IsTrue result ↔ IsOfLines self.now }
     {
         matches!(&self.command, SessionCommand::Lines(_))
     }
 
-    /// The room in a run log for the runs of it. What brings no service up goes on without, and a
-    /// session finds for each line whether there is room.
+    /// Returns the room in a run log for the runs of the command. A command that brings no service
+    /// up goes on without it, and a session checks for each line whether there is room.
     pub fn room(&self) -> Room {
         let room = room_for(bytes_of(&self.base), bytes_of(&self.new));
         match &self.command {
@@ -57,7 +57,8 @@ impl<'a> Loaded<'a> {
     }
 }
 
-/// Whether scripts may be run for a command: a lone edit runs none, and neither does a seal.
+/// Returns true if scripts may be run for a command. A lone edit runs none, and neither does a
+/// seal.
 pub(crate) fn runs_scripts(command: &SessionCommand<'_>) -> bool {
     let making = &command.session().making;
     match command {
@@ -67,12 +68,12 @@ pub(crate) fn runs_scripts(command: &SessionCommand<'_>) -> bool {
     }
 }
 
-// Whether transitions are made by programs that are started.
+// Returns true if transitions are made by programs that are started.
 fn starts(making: &Making<'_>) -> bool {
     matches!(making, Making::Programs(_))
 }
 
-// Whether a line may bring services up.
+// Returns true if a line may bring services up.
 fn may_raise(once: &Once) -> bool {
     match once {
         Once::Line(SessionLine::Command(Command::Change(request))) => request.mode == Mode::Up,
@@ -81,9 +82,9 @@ fn may_raise(once: &Once) -> bool {
     }
 }
 
-// The room for the runs on the databases of these texts. Beside the lines of a run it is for what a
-// log begins with and a file may grow by: a text of which no file is there yet, the line of the
-// step, and the state that the first of two steps adds.
+// Returns the room for the runs on the databases of these texts. Besides the lines of a run it
+// covers what a log begins with and a file may grow by: a text of which no file is there yet, the
+// line of the step, and the state that the first of two steps adds.
 fn room_for(base: &[u8], new: &[u8]) -> Room {
     let (services, names) = size_of(base);
     let (more, others) = size_of(new);
@@ -92,8 +93,8 @@ fn room_for(base: &[u8], new: &[u8]) -> Room {
     Room::of(services.saturating_mul(4), names.saturating_mul(4))
 }
 
-// How many services the text of a database has, and how many bytes the lines of these and of its
-// bundles have: each line that may be one counts.
+// Returns the number of services in the text of a database, and the number of bytes in the lines of
+// its services and bundles. Each line that may be one counts.
 fn size_of(base: &[u8]) -> (u64, u64) {
     let (mut services, mut names): (u64, u64) = (0, 0);
     for line in base.split(|byte| *byte == b'\n') {
@@ -107,7 +108,7 @@ fn size_of(base: &[u8]) -> (u64, u64) {
     (services, names)
 }
 
-// Whether a line alters bundles, and moves nothing.
+// Returns true if a line alters bundles, and moves nothing.
 fn is_edit(once: &Once) -> bool {
     matches!(
         once,
@@ -115,7 +116,7 @@ fn is_edit(once: &Once) -> bool {
     )
 }
 
-/// Whether something is to be done, and not only shown.
+/// Returns true if a command does something, and not only shows it.
 pub(crate) fn moves_by(command: &SessionCommand<'_>) -> bool
     ensures { IsTrue result ↔ MovesBy command.now }
 {
@@ -127,8 +128,8 @@ pub(crate) fn moves_by(command: &SessionCommand<'_>) -> bool
     }
 }
 
-/// The bytes of a database that is needed: none, where no file is named. Of a command that needs
-/// one the file is named.
+/// Returns the bytes of a database that is needed, or no bytes if no file is named. A command that
+/// needs a database names its file.
 pub(crate) fn bytes_of<'b>(text: &'b Option<FileText<'_>>) -> &'b [u8]
     ensures { result.now ≡ bytes_of text.now }
 {
@@ -171,7 +172,8 @@ pub(crate) fn load<'a>(
     }
 }
 
-// Whether the database in a file is this one. Of a file that can't be read that is not known.
+// Returns true if the database in a file is this one. If the file can't be read, that is not known,
+// and the result is true.
 fn has(rt: &HostRuntime, path: &str, database: &[u8]) -> bool {
     match FileText::read(rt, path) {
         Ok(text) => {
@@ -183,7 +185,7 @@ fn has(rt: &HostRuntime, path: &str, database: &[u8]) -> bool {
     }
 }
 
-// The database that stands in the file of the session, and else the one in this file.
+// Returns the database that stands in the file of the session, or else reads the one in this file.
 fn base_of<'a>(
     rt: &HostRuntime,
     live: &LiveText<'a>,
@@ -201,7 +203,7 @@ fn base_of<'a>(
     }
 }
 
-// The path of the new database of an update.
+// Returns the path of the new database of an update.
 fn new_file<'a>(command: &SessionCommand<'a>) -> Option<&'a str>
     ensures { result ≡ new_file command.now }
 {
@@ -211,7 +213,7 @@ fn new_file<'a>(command: &SessionCommand<'a>) -> Option<&'a str>
     }
 }
 
-// A file, if one is named.
+// Reads a file, if one is named.
 fn read_at<'a>(
     rt: &HostRuntime,
     file: Option<&'a str>,

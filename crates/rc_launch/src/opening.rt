@@ -1,6 +1,6 @@
-//! The files of a command are opened: the file of its session is locked, its databases are read,
-//! what a command that was cut short has moved is entered, and what stands in the file is read. A
-//! command that may run scripts is refused before that where the program can't run them.
+//! Opens the files of a command: locks the file of its session, reads its databases, enters what a
+//! command that was cut short has moved, and reads what stands in the file. A command that may run
+//! scripts is refused before that if the program can't run them.
 ghost use Rattle.std.specs.Prelude.{◌≡◌, IfOk};
 ghost use Rattle.rc_args.specs.Making.{making_ask_of};
 ghost use Rattle.rc_launch.specs.Beside.{AreRunsOf, IsLocked, IsNoted};
@@ -19,9 +19,8 @@ use rc_args::SessionCommand;
 use rc_streams::inherited::unfit_for_scripts;
 use rc_streams::live_lock::LockFault;
 
-/// Opens the files of a command, whose database is that of this file where its session has none.
-/// The file of its session is locked where something is to be done, and not where that is only
-/// shown.
+/// Opens the files of a command. If its session has no database, the database is the given file.
+/// The file of the session is locked if the command does something, and not if it only shows that.
 pub fn open<'a>(
     rt: &'a HostRuntime,
     command: SessionCommand<'a>,
@@ -53,7 +52,7 @@ pub fn open<'a>(
     }
 }
 
-// Opens the other files, where that of the session is locked or not.
+// Opens the other files of a command, whether the file of the session is locked or not.
 fn open_on<'a>(
     rt: &'a HostRuntime,
     command: SessionCommand<'a>,
@@ -70,8 +69,8 @@ fn open_on<'a>(
     }
 }
 
-// The same where the file of the session is locked: what a command that was cut short has moved is
-// entered first.
+// Opens the other files of a command while the file of its session is locked. Enters first what a
+// command that was cut short has moved.
 fn open_to_move<'a>(
     rt: &'a HostRuntime,
     command: SessionCommand<'a>,
@@ -102,7 +101,8 @@ fn open_to_move<'a>(
     }
 }
 
-// The same where it is not: what stands beside it is read before it.
+// Opens the other files of a command while the file of its session is not locked. What stands
+// beside that file is read before it.
 fn open_to_look<'a>(
     rt: &'a HostRuntime,
     command: SessionCommand<'a>,
@@ -155,7 +155,8 @@ fn load_on<'a>(
     }
 }
 
-// What stands in the file of a session after a recovery, which may have replaced it.
+// Returns the text of the file of a session after a recovery. Reads the file again if the recovery
+// may have replaced it.
 fn read_behind<'a>(
     rt: &'a HostRuntime,
     seen: LiveText<'a>,
@@ -173,7 +174,7 @@ fn read_behind<'a>(
     }
 }
 
-// A command whose files are read, with those of its runs.
+// Creates an opened command from the files that were read, with the files of its runs.
 fn with_runs<'a>(
     store: &LiveStore<'a>,
     loaded: Loaded<'a>,
@@ -204,7 +205,7 @@ fn with_runs<'a>(
     }
 }
 
-// Why the files of the runs of a session are not opened.
+// Returns the fault for files of the runs of a session that are not opened.
 fn runs_fault<'a>(path: &'a str, fault: RunsFault) -> OpenFault<'a> {
     match fault {
         RunsFault::Log(error) => OpenFault::Log(path, error),
@@ -212,7 +213,7 @@ fn runs_fault<'a>(path: &'a str, fault: RunsFault) -> OpenFault<'a> {
     }
 }
 
-// Why the file of a session is not locked.
+// Returns the fault for the file of a session that is not locked.
 fn lock_fault<'a>(path: &'a str, fault: LockFault) -> OpenFault<'a> {
     match fault {
         LockFault::Busy(owner) => OpenFault::Busy(path, owner),

@@ -10,11 +10,11 @@ use crate::texts::{LogText, ReadFiles};
 pub enum Came {
     /// The log was of another text than that of the session, and is removed.
     Stale,
-    /// What it says is entered, with this report, and the log is removed.
+    /// What the log says is entered, with this report, and the log is removed.
     Entered(Vec<u8>),
-    /// It said nothing, and is removed.
+    /// The log said nothing, and is removed.
     Nothing,
-    /// The database of the command is none, so that the command is refused. The log is left.
+    /// The text is not that of a database, so the command is refused. The log stays.
     NoDatabase,
 }
 
@@ -28,7 +28,7 @@ pub enum Recovery<'a> {
 }
 
 impl Recovery<'_> {
-    /// The report of what was entered, if anything was.
+    /// Returns the report of what was entered, if anything was.
     pub fn report(&self) -> Option<&[u8]>
         ensures { option_map (λ report. report.now) result ≡ report_of self.now }
     {

@@ -13,10 +13,11 @@ use thiserror::Error;
 /// Why what a command has moved is not entered.
 #[derive(Clone, Copy, PartialEq, Eq, Debug, Error)]
 pub enum Unrecovered {
-    /// The text is none of a database. Nothing was looked at.
+    /// The text is not that of a database. Nothing was looked at.
     #[error("the database can't be read")]
     Database,
-    /// The log is none of a run of this database from where the session stands. It is left.
+    /// The log is not that of a run of this database from the current state of the session. It
+    /// stays.
     #[error("the run log does not fit the session or the database")]
     Log,
     #[error("out of memory")]
@@ -42,9 +43,9 @@ impl From<FilesFault> for Unrecovered {
     }
 }
 
-/// Enters what the run log of a session leaves, by the text of a database, and empties the log. The
-/// result is the report, or `None` where there is nothing to enter. What a recovery that is cut
-/// short leaves is recovered by the next one, to the same text.
+/// Enters what the run log of a session leaves, by the text of a database, and empties the log.
+/// Returns the report, or `None` if there is nothing to enter. If a recovery is cut short, the next
+/// one leads to the same text.
 pub fn recover_by<F: TwoFiles>(
     alloc: Global,
     base: &[u8],
@@ -73,8 +74,8 @@ pub fn recover_by<F: TwoFiles>(
     }
 }
 
-/// The report of what a recovery would enter of the bytes of the two files. `None`: there is
-/// nothing to enter.
+/// Returns the report of what a recovery would enter, from the bytes of the two files. Returns
+/// `None` if there is nothing to enter.
 pub fn left_report(
     alloc: Global,
     base: &[u8],
@@ -105,7 +106,7 @@ pub fn left_report(
     }
 }
 
-// Why a database is not read.
+// Returns the fault for a database that is not read.
 fn unread(fault: TextFault) -> Unrecovered
     ensures { IsUnread fault result }
 {

@@ -1,4 +1,4 @@
-//! What a command that was cut short has moved is entered.
+//! Enters what a command that was cut short has moved.
 ghost use Rattle.std.specs.Prelude.{◌≡◌, ◌↔◌, IfOk, IsTrue};
 ghost use Rattle.rc_launch.specs.Beside.{IsEnteredFirst, IsLookedAt, IsSeen};
 ghost use Rattle.rc_launch.specs.Recovered.{ComesBy, ComesFor, IsCut, IsFirstStep, IsRecovered};
@@ -19,8 +19,8 @@ use rc_names::NoMem;
 use rc_recovery::TwoFiles;
 use rc_streams::{live_lock, run_file, stop_file};
 
-/// What is found beside the file of a session that is not locked: where it is shown where services
-/// stand, the run log is read.
+/// Returns the note on what stands beside the file of a session that is not locked: the run log for
+/// `status`, and for other commands whether one is under way or was cut short.
 pub(crate) fn look<'a>(
     rt: &'a HostRuntime,
     live: Option<&'a str>,
@@ -40,7 +40,7 @@ pub(crate) fn look<'a>(
     }
 }
 
-/// Enters what a command that was cut short has moved, where the file of a session is locked.
+/// Enters what a command that was cut short has moved. The file of the session is locked.
 pub(crate) fn recover_first<'a>(
     rt: &'a HostRuntime,
     live: Option<&'a str>,
@@ -57,8 +57,8 @@ pub(crate) fn recover_first<'a>(
     }
 }
 
-// Reads the run log of a session, and enters what it leaves. The room that is reserved in it is
-// given back, and what calls off other commands is removed.
+// Reads the run log of a session, and enters what it leaves. Also gives back the room that is
+// reserved in the log, and removes what calls off other commands.
 fn recover<'a>(
     rt: &'a HostRuntime,
     path: &'a str,
@@ -81,8 +81,8 @@ fn recover<'a>(
     }
 }
 
-// The same with both files. A log that leaves nothing is removed, so that it never fits a later
-// text.
+// Enters what the log leaves, once both files were read. A log that leaves nothing is removed, so
+// that it never fits a later text.
 fn recover_read<'a>(
     rt: &'a HostRuntime,
     loaded: &Loaded<'_>,
@@ -103,7 +103,8 @@ fn recover_read<'a>(
     }
 }
 
-// Both files, for what the command of the log has done to the states of the session.
+// Creates the held files for a recovery, with what the command of the log does to the states of the
+// session.
 fn held_for<'a>(
     rt: &'a HostRuntime,
     loaded: &Loaded<'_>,
@@ -116,7 +117,7 @@ fn held_for<'a>(
     HeldFiles::new(rt, read, is_first)
 }
 
-// Whether a log is that of the first step of the update that is asked for.
+// Returns true if a log is that of the first step of the requested update.
 fn is_first_step(rt: &HostRuntime, loaded: &Loaded<'_>, read: &ReadFiles<'_>) -> Result<bool, NoMem>
     ensures { IfOk result (λ is. IsTrue is ↔ IsFirstStep loaded.now read.now) }
 {
@@ -130,7 +131,7 @@ fn is_first_step(rt: &HostRuntime, loaded: &Loaded<'_>, read: &ReadFiles<'_>) ->
     }
 }
 
-// The same with the log of a command that was cut short.
+// Enters what the log of a command that was cut short leaves.
 fn recover_cut<'a>(
     rt: &HostRuntime,
     loaded: &Loaded<'_>,
@@ -148,7 +149,7 @@ fn recover_cut<'a>(
     }
 }
 
-// Recovers the files by the database of the session. The fault is none where there is no database.
+// Recovers the files by the database of the session. The fault is `None` if there is no database.
 fn recovered(
     rt: &HostRuntime,
     loaded: &Loaded<'_>,
@@ -166,7 +167,7 @@ fn recovered(
     }
 }
 
-// Recovers them by the text of a database.
+// Recovers the files by the text of a database.
 fn recovered_by(
     rt: &HostRuntime,
     base: &[u8],
@@ -183,7 +184,7 @@ fn recovered_by(
     }
 }
 
-// Why what a log says is not entered.
+// Returns the fault for a log that is not entered.
 fn unrecovered<'a>(
     read: ReadFiles<'a>,
     held: HeldFiles<'a>,
@@ -200,7 +201,7 @@ fn unrecovered<'a>(
     }
 }
 
-// Why a log is not removed.
+// Returns the fault for a log that is not removed.
 fn log_fault<'a>(read: ReadFiles<'a>, held: HeldFiles<'a>) -> OpenFault<'a> {
     let path = read.path();
     drop(read);
@@ -210,7 +211,7 @@ fn log_fault<'a>(read: ReadFiles<'a>, held: HeldFiles<'a>) -> OpenFault<'a> {
     }
 }
 
-// What who only looks finds beside the file of a session.
+// Returns the note on what stands beside the file of a session, for a command that only shows it.
 fn cut_note<'a>(rt: &HostRuntime, path: &str) -> Note<'a>
     ensures { IsSeen result }
 {

@@ -23,7 +23,7 @@ pub struct Runs<'a> {
 }
 
 impl<'a> Runs<'a> {
-    /// The files beside that of a session that is locked, for the runs of a command.
+    /// Opens the files beside that of a session that is locked, for the runs of a command.
     pub(crate) fn open(
         rt: &HostRuntime,
         path: &'a str,
@@ -47,22 +47,22 @@ impl<'a> Runs<'a> {
         }
     }
 
-    /// The path of the file of the session.
+    /// Returns the path of the file of the session.
     pub fn path(&self) -> &'a str
         ensures { result ≡ self.now.path }
     {
         self.path
     }
 
-    /// The files.
+    /// Returns the files.
     pub fn files(&self) -> &RunFiles
         ensures { result.now ≡ self.now.files }
     {
         &self.files
     }
 
-    /// Removes them, but for the log of a run of which the session may not know. The lock of the
-    /// session is still held.
+    /// Removes the files, except for the log of a run of which the session may not know. The lock
+    /// of the session is still held.
     pub fn remove(&self, rt: &HostRuntime) {
         self.files.remove(rt, self.path);
     }

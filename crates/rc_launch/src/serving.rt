@@ -1,4 +1,4 @@
-//! A command is carried out on its files.
+//! Carries a command out on its files.
 ghost use Rattle.std.specs.Prelude.{◌≡◌, option_map};
 ghost use Rattle.rc_streams.specs.Noting.{HasFailed};
 ghost use Rattle.rc_cli.specs.Session.{dealt};
@@ -28,7 +28,7 @@ pub struct Status {
 }
 
 impl Status {
-    /// Its number.
+    /// Returns the number of the status.
     pub fn code(self) -> u8
         ensures { result ≡ self.code }
     {
@@ -36,10 +36,10 @@ impl Status {
     }
 }
 
-/// Carries a command out on the files that were opened for it, and returns the status: 0 where all
-/// is done or shown; 1 where it is refused, and nothing has moved; 2 where it was carried out, and
-/// something failed, was blocked or was not tried; 111 for a failure. The devices must not have
-/// failed before.
+/// Carries a command out on the files that were opened for it, and returns the status: 0 if all is
+/// done or shown; 1 if it is refused, and nothing has moved; 2 if it was carried out, and something
+/// failed, was blocked or was not tried; 111 for a failure. The devices must not have failed
+/// before.
 pub fn serve<'x, T: Threads + Wait + Sync, R: Read, W: Write, F: Write, S: Store>(
     rt: &'x HostRuntime,
     threads: &'x T,
@@ -91,7 +91,7 @@ pub fn serve<'x, T: Threads + Wait + Sync, R: Read, W: Write, F: Write, S: Store
     Status { code }
 }
 
-/// The status of a command that was carried out in several steps.
+/// Creates the status of a command that was carried out in several steps.
 pub(crate) fn status_of(code: u8) -> Status
     ensures { result.code ≡ code }
 {
@@ -99,7 +99,7 @@ pub(crate) fn status_of(code: u8) -> Status
 }
 
 /// Serves the line or the restart of a command on these texts of a database and of a session, in
-/// the place of those that were opened for it, and returns the status.
+/// place of those that were opened for it, and returns the status.
 pub(crate) fn serve_on<'x, T: Threads + Wait + Sync, R: Read, W: Write, F: Write, S: Store>(
     rt: &'x HostRuntime,
     threads: &'x T,
@@ -117,8 +117,8 @@ pub(crate) fn serve_on<'x, T: Threads + Wait + Sync, R: Read, W: Write, F: Write
     launch(&host, opened.session(), service, Some(base), live, devices)
 }
 
-/// Carries out an update from these texts of a database and of a session, in the place of those
-/// that were opened for it, and returns the status.
+/// Carries out an update from these texts of a database and of a session, in place of those that
+/// were opened for it, and returns the status.
 pub(crate) fn serve_update<'x, T: Threads + Wait + Sync, R: Read, W: Write, F: Write, S: Store>(
     rt: &'x HostRuntime,
     threads: &'x T,
@@ -145,14 +145,14 @@ pub(crate) fn serve_update<'x, T: Threads + Wait + Sync, R: Read, W: Write, F: W
     )
 }
 
-// What stood in the file of its session.
+// Returns the content of the file of the session, as it was read.
 fn read_of<'x>(opened: &'x Opened<'_>) -> LiveFile<'x>
     ensures { IsReadAs (λ bytes. bytes.items) opened.now.live.found result }
 {
     live_file(opened.live.found())
 }
 
-// The log of the command, of the transitions that it reports.
+// Returns the log for the transitions that the command reports.
 fn log_of<'h>(
     rt: &'h HostRuntime,
     opened: &Opened<'_>,
@@ -162,7 +162,7 @@ fn log_of<'h>(
     log_for(rt, opened.session())
 }
 
-// What the command runs on: with the files of its runs, if it has any.
+// Creates the host on which the command runs, with the files of its runs, if it has any.
 fn host_of<'h, T, L>(
     rt: &'h HostRuntime,
     threads: &'h T,
@@ -185,7 +185,7 @@ fn host_of<'h, T, L>(
     }
 }
 
-// The bytes of the run log that was read.
+// Returns the bytes of the run log that was read.
 fn logged_in<'b>(note: &'b Note<'_>) -> &'b [u8]
     ensures { result.now ≡ logged_of note.now }
 {
@@ -195,7 +195,7 @@ fn logged_in<'b>(note: &'b Note<'_>) -> &'b [u8]
     }
 }
 
-// The bytes of a database, if there is one.
+// Returns the bytes of a database, if there is one.
 fn base_in<'b>(base: &'b Option<FileText<'_>>) -> Option<&'b [u8]>
     ensures { option_map (λ bytes. bytes.now) result ≡ option_map bytes_in base.now }
 {

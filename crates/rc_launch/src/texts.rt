@@ -1,5 +1,5 @@
-//! What was read of files. Nothing but a read makes these values: what is carried out on them is
-//! carried out on what the files had.
+//! Texts that were read from files. Only a read makes these values, so a command is carried out on
+//! what the files had.
 ghost use Rattle.std.specs.Prelude.{◌≡◌, ◌↔◌, IfOk, IsTrue, option_map, unwrap_or, []};
 ghost use Rattle.rc_launch.specs.Loading.{base_file};
 ghost use Rattle.rc_launch.specs.Logs.{IsCutBy, text_in};
@@ -29,7 +29,7 @@ impl<'a> FileText<'a> {
         }
     }
 
-    /// The database that stands in the file of a session.
+    /// Creates the text of the database that stands in the file of a session.
     pub(crate) fn inside(
         alloc: Global,
         path: &'a str,
@@ -44,14 +44,14 @@ impl<'a> FileText<'a> {
         }
     }
 
-    /// Its path.
+    /// Returns the path of the file.
     pub fn path(&self) -> &'a str
         ensures { result ≡ self.now.path }
     {
         self.path
     }
 
-    /// Its bytes.
+    /// Returns the bytes of the file.
     pub fn bytes(&self) -> &[u8]
         ensures { result.now ≡ self.now.bytes.items }
     {
@@ -77,7 +77,7 @@ pub struct LiveText<'a> {
 }
 
 impl<'a> LiveText<'a> {
-    /// Reads it.
+    /// Reads the file of a session, if one is named.
     pub fn read(rt: &HostRuntime, path: Option<&'a str>) -> Result<LiveText<'a>, OpenFault<'a>>
         ensures { IfOk result (λ live. live.path ≡ path.entry) }
     {
@@ -99,21 +99,21 @@ impl<'a> LiveText<'a> {
         }
     }
 
-    /// Its path, if one is named.
+    /// Returns the path of the file, if one is named.
     pub fn path(&self) -> Option<&'a str>
         ensures { result ≡ self.now.path }
     {
         self.path
     }
 
-    /// What was read of the session.
+    /// Returns the result of reading the text of the session.
     pub fn found(&self) -> &io::Result<Option<Vec<u8>>>
         ensures { result.now ≡ self.now.found }
     {
         &self.found
     }
 
-    /// The text of the session that was found.
+    /// Returns the text of the session that was found.
     pub fn bytes(&self) -> Option<&[u8]>
         ensures { option_map (λ bytes. bytes.now) result
             ≡ text_in (λ bytes. bytes.items) self.now.found }
@@ -124,7 +124,7 @@ impl<'a> LiveText<'a> {
         }
     }
 
-    /// The text of the history that was found, if it was one.
+    /// Returns the text of the history that was found, if it was one.
     pub fn history(&self) -> Option<&[u8]> {
         match &self.history {
             Some(history) => Some(&history.text),
@@ -132,8 +132,8 @@ impl<'a> LiveText<'a> {
         }
     }
 
-    /// The file of the database of a command: this one, if a history stood there, and else that
-    /// file.
+    /// Returns the path of the database of a command: this file if a history stood there, else the
+    /// given file.
     pub(crate) fn base_path(&self, file: Option<&'a str>) -> Option<&'a str>
         ensures { result ≡ base_file self.now file.entry }
     {
@@ -144,7 +144,7 @@ impl<'a> LiveText<'a> {
         }
     }
 
-    /// The database of its present generation.
+    /// Returns the database of the present generation, if a history stood there.
     pub fn database(&self) -> Option<&[u8]> {
         match &self.history {
             Some(history) => Some(&history.database),
@@ -153,7 +153,7 @@ impl<'a> LiveText<'a> {
     }
 }
 
-// The text of the session that is the present one of a history, and that history.
+// Splits a history into the text of its present session and the history itself.
 fn split(alloc: Global, text: Vec<u8>) -> Result<(Vec<u8>, FoundHistory), HistoryFault> {
     match copies(alloc, &text) {
         Ok((session, database)) => Ok((session, FoundHistory { text, database })),
@@ -164,7 +164,7 @@ fn split(alloc: Global, text: Vec<u8>) -> Result<(Vec<u8>, FoundHistory), Histor
     }
 }
 
-// Copies of the session and the database of the present generation.
+// Copies the session and the database of the present generation.
 fn copies(alloc: Global, text: &[u8]) -> Result<(Vec<u8>, Vec<u8>), HistoryFault> {
     let present = match present_of(alloc, text) {
         Ok(present) => present,
@@ -208,14 +208,14 @@ impl<'a> LogText<'a> {
         }
     }
 
-    /// The path of the file of its session.
+    /// Returns the path of the file of the session.
     pub fn path(&self) -> &'a str
         ensures { result ≡ self.now.path }
     {
         self.path
     }
 
-    /// Its bytes.
+    /// Returns the bytes of the log.
     pub fn bytes(&self) -> &[u8]
         ensures { result.now ≡ self.now.bytes.items }
     {
@@ -223,8 +223,8 @@ impl<'a> LogText<'a> {
     }
 }
 
-/// Puts blanks where a log has a hole: a worker that was killed had taken the place of a line and
-/// not written it.
+/// Puts blanks where a log has a hole. A worker leaves one if it is killed after it has taken the
+/// place of a line, and before it has written the line.
 fn blank_holes(bytes: &mut [u8]) {
     for place in 0..bytes.len() {
         if bytes[place] == 0 {
@@ -243,7 +243,7 @@ pub struct ReadFiles<'a> {
 }
 
 impl<'a> ReadFiles<'a> {
-    /// Reads the file whose log was read.
+    /// Reads the file of a session whose log was read before.
     pub(crate) fn read(
         rt: &HostRuntime,
         logged: LogText<'a>,
@@ -276,7 +276,7 @@ impl<'a> ReadFiles<'a> {
         }
     }
 
-    /// The text of the history that stood there, if it was one.
+    /// Returns the text of the history that stood in the file, if it was one.
     pub(crate) fn history(&self) -> Option<&[u8]> {
         match &self.history {
             Some(history) => Some(&history.text),
@@ -284,14 +284,14 @@ impl<'a> ReadFiles<'a> {
         }
     }
 
-    /// The path of the file.
+    /// Returns the path of the file.
     pub fn path(&self) -> &'a str
         ensures { result ≡ self.now.logged.path }
     {
         self.logged.path()
     }
 
-    /// The text that stood there. An empty one, where there was none.
+    /// Returns the text of the session that stood in the file, or an empty text if there was none.
     pub fn text(&self) -> &[u8]
         ensures { result.now
             ≡ unwrap_or (option_map (λ bytes. bytes.items) self.now.found) [] }
@@ -302,15 +302,15 @@ impl<'a> ReadFiles<'a> {
         }
     }
 
-    /// The bytes of the log.
+    /// Returns the bytes of the log.
     pub fn log(&self) -> &[u8]
         ensures { result.now ≡ self.now.logged.bytes.items }
     {
         self.logged.bytes()
     }
 
-    /// Whether the log is that of a command on the text that stood there: it begins with that, and
-    /// has more.
+    /// Returns true if the log is that of a command on the text that stood in the file: the log
+    /// begins with that text, and has more.
     pub fn is_cut(&self) -> bool
         ensures { IsTrue result ↔ IsCutBy (option_map (λ bytes. bytes.items) self.now.found)
             self.now.logged.bytes.items }

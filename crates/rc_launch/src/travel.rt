@@ -42,8 +42,9 @@ struct Texts {
     session: Vec<u8>,
 }
 
-/// Carries a command out on the files that were opened for it, and returns the status, as `serve`.
-/// On a history it goes on as far as the command leads. The devices must not have failed before.
+/// Carries a command out on the files that were opened for it, and returns the status, as `serve`
+/// does. On a history it goes on as far as the command leads. The devices must not have failed
+/// before.
 pub fn carry_out<'x, T: Threads + Wait + Sync, R: Read, W: Write, F: Write>(
     rt: &'x HostRuntime,
     threads: &'x T,
@@ -67,7 +68,7 @@ pub fn carry_out<'x, T: Threads + Wait + Sync, R: Read, W: Write, F: Write>(
     }
 }
 
-// An undo or a redo, if it is one.
+// Returns the way of an undo or a redo, if the line is one.
 fn way_of(once: &Once) -> Option<Way<'_>> {
     let (is_on, is_dry) = match once {
         Once::DryUndo => (false, true),
@@ -83,7 +84,7 @@ fn way_of(once: &Once) -> Option<Way<'_>> {
     })
 }
 
-// Carries out an undo or a redo, whose borders are all tested first.
+// Carries out an undo or a redo, and returns the status. All borders on its way are tested first.
 fn travel<'x, T: Threads + Wait + Sync, R: Read, W: Write, F: Write>(
     rt: &'x HostRuntime,
     threads: &'x T,
@@ -210,8 +211,8 @@ fn show<'x, T: Threads + Wait + Sync, R: Read, W: Write, F: Write>(
     }
 }
 
-// Carries out an update: what was cut short before is taken back first, and once all is done its
-// state is a stop.
+// Carries out an update, and returns the status. First takes back what was cut short before. Once
+// all is done, makes the current state a stop.
 fn update<'x, T: Threads + Wait + Sync, R: Read, W: Write, F: Write>(
     rt: &'x HostRuntime,
     threads: &'x T,
@@ -239,7 +240,8 @@ fn update<'x, T: Threads + Wait + Sync, R: Read, W: Write, F: Write>(
     }
 }
 
-// Carries over to the new database. One that the history stands in already is not entered.
+// Carries the session over to the new database, and returns the status. If the history stands in
+// that database already, and there are no conversions, it is not entered.
 fn carry_over<'x, T: Threads + Wait + Sync, R: Read, W: Write, F: Write>(
     rt: &'x HostRuntime,
     threads: &'x T,
@@ -308,7 +310,7 @@ fn take_back<'x, T: Threads + Wait + Sync, R: Read, W: Write, F: Write>(
     Some(code)
 }
 
-// Serves the line of an undo or a redo in the present generation.
+// Serves the line of an undo or a redo in the present generation, and returns the status.
 fn run_inside<'x, T: Threads + Wait + Sync, R: Read, W: Write, F: Write>(
     rt: &'x HostRuntime,
     threads: &'x T,
@@ -330,7 +332,7 @@ fn run_inside<'x, T: Threads + Wait + Sync, R: Read, W: Write, F: Write>(
     }
 }
 
-// The texts of the present generation. None: there is no history.
+// Returns the texts of the present generation, or `None` if there is no history.
 fn texts_in<R, W, F>(
     alloc: Global,
     devices: &Devices<R, W, F, LiveStore<'_>>,
@@ -339,7 +341,7 @@ fn texts_in<R, W, F>(
     Some(texts_of(alloc, history))
 }
 
-// The texts of the present generation of a history.
+// Returns the texts of the present generation of a history.
 fn texts_of(alloc: Global, history: &[u8]) -> Result<Texts, HistoryFault> {
     let present = present_of(alloc, history)?;
     let Ok(database) = Vec::from_slice(alloc, present.database) else {
@@ -354,12 +356,12 @@ fn texts_of(alloc: Global, history: &[u8]) -> Result<Texts, HistoryFault> {
     }
 }
 
-// The text of the history that is kept: none, where there is none.
+// Returns the text of the history that is kept, or an empty text if there is none.
 fn history_in<'d, R, W, F>(devices: &'d Devices<R, W, F, LiveStore<'_>>) -> &'d [u8] {
     devices.outputs.keeper.store.history().unwrap_or(&[])
 }
 
-// Whether the next step of an undo or a redo crosses a border.
+// Returns true if the next step of an undo or a redo crosses a border.
 fn is_border(alloc: Global, history: &[u8], is_on: bool) -> Result<bool, HistoryFault> {
     match standing_of(alloc, history) {
         Ok(standing) => Ok(!standing.has_inside(is_on) && standing.has_next(is_on)),
@@ -367,7 +369,8 @@ fn is_border(alloc: Global, history: &[u8], is_on: bool) -> Result<bool, History
     }
 }
 
-// Makes the state that a command of several steps has come to a stop, if all is done.
+// Turns the state to which a command of several steps has come into a stop, if all is done. Returns
+// the status.
 fn settled<R, W, F: Write>(code: u8, devices: &mut Devices<R, W, F, LiveStore<'_>>) -> u8 {
     if code != DONE {
         return code;
@@ -378,12 +381,12 @@ fn settled<R, W, F: Write>(code: u8, devices: &mut Devices<R, W, F, LiveStore<'_
     }
 }
 
-// The status of a command of which something was carried out before it ended so.
+// Returns the status of a command that ended with this code after a part of it was carried out.
 fn hindered(code: u8) -> u8 {
     if code == REFUSED { HINDERED } else { code }
 }
 
-// Answers a command that moved nothing.
+// Writes the answer of a command that moved nothing, and returns the status.
 fn say_done<R, W: Write, F: Write, S>(answer: &[u8], devices: &mut Devices<R, W, F, S>) -> u8 {
     match write_answer(&mut devices.outputs.writer, answer) {
         Ok(()) => DONE,
@@ -391,7 +394,7 @@ fn say_done<R, W: Write, F: Write, S>(answer: &[u8], devices: &mut Devices<R, W,
     }
 }
 
-// Tells that a border is none, and returns the status. Nothing has moved.
+// Reports a border at which services would have to move, and returns the status. Nothing has moved.
 fn tell_unjoined<R, W, F: Write, S>(
     alloc: Global,
     border: usize,
@@ -407,13 +410,13 @@ fn tell_unjoined<R, W, F: Write, S>(
     }
 }
 
-// Tells a failure, and returns the status.
+// Reports a failure, and returns the status.
 fn fail_on<R, W, F: Write, S>(word: &[u8], devices: &mut Devices<R, W, F, S>) -> u8 {
     tell(&mut devices.faults, word);
     FAILED
 }
 
-// Why a write failed, in a word.
+// Returns the word for a write that failed.
 fn word_of(fault: KeepFault) -> &'static [u8] {
     match fault {
         KeepFault::Io => b"Io",

@@ -12,8 +12,9 @@ pub(crate) struct TriedLock<'a> {
 }
 
 impl<'a> TriedLock<'a> {
-    /// Asks for the lock of the session of this file, for a program that serves the lines of an
-    /// input or not, and waits for it or not where another program holds it.
+    /// Asks for the lock of the session of this file. If another program holds it, `waits` says
+    /// whether to wait for it. `is_of_lines` says whether this program serves the lines of an
+    /// input.
     pub fn take(
         rt: &HostRuntime,
         path: &'a str,
@@ -28,14 +29,14 @@ impl<'a> TriedLock<'a> {
         })
     }
 
-    /// The path of the file.
+    /// Returns the path of the file.
     pub fn path(&self) -> &'a str
         ensures { result ≡ self.now.path }
     {
         self.path
     }
 
-    /// Whether it is held.
+    /// Returns true if the lock is held.
     pub fn is_held(&self) -> bool
         ensures { IsTrue result ↔ IsSome self.now.lock }
     {

@@ -18,7 +18,7 @@ pub fn cursor_is_on_the_current_state()
     ensures { (line : Line) → slice_get (states line) (cursor line) ≡ Some line.current }
 {}
 
-/// To go one state on leaves the states alone.
+/// Going one state on leaves the states alone.
 pub fn next_has_the_same_states()
     ensures states { (line next : Line) → IsNext line next → states next ≡ states line }
     ensures cursor { (line next : Line) → IsNext line next → cursor next ≡ suc (cursor line) }
@@ -29,8 +29,8 @@ pub fn fitting_leaves_short_lines()
     ensures { (line : Line) → length (states line) ≤ line.bound → within_bound line ≡ line }
 {}
 
-/// From a line that has one state too many exactly one goes, the oldest or the last, and the
-/// current one stays.
+/// A line that has one state too many drops exactly one, the oldest or the last. The current one
+/// stays.
 pub fn fitting_takes_one()
     ensures gone { (line : Line) → 3 ≤ line.bound → line.bound < length (states line) →
         ((gone : State) × (states line ≡ gone ∷ states (within_bound line))
@@ -41,7 +41,7 @@ pub fn fitting_takes_one()
     ensures bound { (line : Line) → (within_bound line).bound ≡ line.bound }
 {}
 
-/// The state before the current one and the one after it never go.
+/// The state before the current one and the one after it are never dropped.
 pub fn fitting_keeps_neighbours()
     ensures before { (line back : Line) → 3 ≤ line.bound → IsNext back line →
         (other : Line) × IsNext other (within_bound line) × (other.current ≡ back.current) }
@@ -54,7 +54,7 @@ pub fn fitting_keeps_neighbours()
 {}
 
 /// An undo goes one state back, or changes nothing, or puts its end in front of where the cursor
-/// was, the cursor on it; and what then is one too many goes.
+/// was, with the cursor on it. If the line then has one state too many, one is dropped.
 pub fn undo_goes_back_or_stays_or_splits()
     ensures { (line new : Line) (live : List Bool) → MovesByUndo line live new →
         ((states new ≡ states line) × (cursor line ≡ suc (cursor new)))
@@ -65,8 +65,8 @@ pub fn undo_goes_back_or_stays_or_splits()
         × (cursor full ≡ cursor line) × (full.bound ≡ line.bound) × (new ≡ within_bound full)) }
 {}
 
-/// A redo goes one state on, or changes nothing, or puts its end after where the cursor was, the
-/// cursor on it; and what then is one too many goes.
+/// A redo goes one state on, or changes nothing, or puts its end after where the cursor was, with
+/// the cursor on it. If the line then has one state too many, one is dropped.
 pub fn redo_goes_on_or_stays_or_splits()
     ensures { (line new : Line) (live : List Bool) → MovesByRedo line live new →
         ((states new ≡ states line) × (cursor new ≡ suc (cursor line)))
@@ -95,8 +95,8 @@ pub fn line_is_states_and_cursor()
         a ≡ b }
 {}
 
-/// An entry leads from a state to one state: what is redone, and by its
-/// inverse what is undone, is exact.
+/// An entry leads from a state to one state only. So what is redone is exact, and so is what is
+/// undone, by the inverse of the entry.
 pub fn entries_lead_to_one_state()
     ensures { (from one other : State) (entry : Entry) → IsEntry from one entry →
         IsEntry from other entry → IsTable one.table → IsTable other.table →

@@ -24,7 +24,7 @@ use std::alloc::{AllocError, Global};
 use std::collections::VecDeque;
 use std::marker::Model;
 
-/// How many states a line may have, where nothing else is said.
+/// The bound on the number of states of a line, if no other is given.
 pub const USUAL_BOUND: u32 = 1024;
 
 /// A line of states with a cursor on the current one, and a bound on how many there may be.
@@ -79,7 +79,7 @@ impl Drop for Line {
 }
 
 impl Line {
-    /// The line of one state, of which there may be 1,024.
+    /// Creates a line of one state, with a bound of 1,024 states.
     pub fn new(alloc: Global, live: Set, table: Table) -> Line
         ensures { result ≡ record {
           line = record {
@@ -94,7 +94,7 @@ impl Line {
         Line::with_bound(alloc, live, table, USUAL_BOUND)
     }
 
-    /// The line of one state, of which there may be so many.
+    /// Creates a line of one state, with a bound of `bound` states.
     pub fn with_bound(alloc: Global, live: Set, table: Table, bound: u32) -> Line
         requires { 3 ≤ bound }
         ensures { result ≡ record {
@@ -107,7 +107,7 @@ impl Line {
           is_open = false;
         } }
     {
-        // A table tells by its length that it is one.
+        // The contract of `len` gives that this is a table.
         let _ = table.len();
         Line {
             live,
@@ -119,21 +119,21 @@ impl Line {
         }
     }
 
-    /// The services that are live in the current state.
+    /// Returns the services that are live in the current state.
     pub fn live(&self) -> &Set
         ensures { result.now ≡ self.now.line.current.live }
     {
         &self.live
     }
 
-    /// The bundles of the current state.
+    /// Returns the bundles of the current state.
     pub fn table(&self) -> &Table
         ensures { result.now ≡ self.now.line.current.table }
     {
         &self.table
     }
 
-    /// How many states the line has.
+    /// Returns the number of states of the line.
     pub fn states(&self) -> usize
         ensures count { result ≡ length (states self.now.line) }
         ensures line { IsLine self.now.line }
@@ -141,28 +141,28 @@ impl Line {
         self.done.len() + self.undone.len() + 1
     }
 
-    /// How many states there may be.
+    /// Returns the maximum number of states of the line.
     pub fn bound(&self) -> u32
         ensures { result ≡ self.now.line.bound }
     {
         self.bound
     }
 
-    /// The place of the current state.
+    /// Returns the place of the current state.
     pub fn cursor(&self) -> usize
         ensures { result ≡ cursor self.now.line }
     {
         self.done.len()
     }
 
-    /// Whether a move is under way.
+    /// Returns true if a move is under way.
     pub fn is_open(&self) -> bool
         ensures { result ≡ self.now.is_open }
     {
         self.is_open
     }
 
-    /// The entry from the state at a place to the one after it.
+    /// Returns the entry from the state at a place to the one after it.
     pub fn entry(&self, place: usize) -> &Entry
         requires closed { self.now.is_open ≡ false }
         requires place { place + 1 < length (states self.now.line) }
@@ -171,7 +171,7 @@ impl Line {
         self.step_at(place)
     }
 
-    /// The state at a place.
+    /// Returns the state at a place.
     pub fn state(&self, alloc: Global, place: usize) -> Result<(Set, Table), NoMem>
         requires closed { self.now.is_open ≡ false }
         requires place { place < length (states self.now.line) }
@@ -187,7 +187,7 @@ impl Line {
         }
     }
 
-    /// Opens a change by a plan. All the room that its end needs is made here.
+    /// Opens a change by a plan. Makes all the room that its end needs.
     pub fn open_new(&mut self, alloc: Global, plan: &Plan) -> Result<Open, LineFault>
         requires closed { self.old.is_open ≡ false }
         requires bound { length plan.now.opening ≡ length self.old.line.current.live }
@@ -207,8 +207,7 @@ impl Line {
         self.opened(alloc, Aim::Change, live, None)
     }
 
-    /// Opens an edit that was made from the current table. All the room
-    /// that its end needs is made here.
+    /// Opens an edit that was made from the current table. Makes all the room that its end needs.
     pub fn open_edit(&mut self, alloc: Global, edit: &Edit) -> Result<Open, LineFault>
         requires closed { self.old.is_open ≡ false }
         requires made { (table : Bundles) × IsEditFrom self.old.line edit.now table }
@@ -230,7 +229,7 @@ impl Line {
         self.opened(alloc, Aim::Edit, live, table)
     }
 
-    /// Opens the way to the state before. All the room that its end needs is made here.
+    /// Opens the way to the state before. Makes all the room that its end needs.
     pub fn open_undo(&mut self, alloc: Global) -> Result<Open, LineFault>
         requires { self.old.is_open ≡ false }
         ensures opened { IfOk result (IsOpened self.new) }
@@ -250,7 +249,7 @@ impl Line {
         self.opened(alloc, Aim::Undo, live, table)
     }
 
-    /// Opens the way to the state after. All the room that its end needs is made here.
+    /// Opens the way to the state after. Makes all the room that its end needs.
     pub fn open_redo(&mut self, alloc: Global) -> Result<Open, LineFault>
         requires { self.old.is_open ≡ false }
         ensures opened { IfOk result (IsOpened self.new) }
@@ -329,7 +328,7 @@ impl Line {
         self.is_open = false;
     }
 
-    /// Opens a move that aims at a state. No table: the current one.
+    /// Opens a move that aims at a state. `None` for its table stands for the current one.
     fn opened(
         &mut self,
         alloc: Global,
@@ -438,7 +437,7 @@ impl Line {
         }) }
         ensures closed { self.new.is_open ≡ false }
     {
-        // A table tells by its length that it is one.
+        // The contract of `len` gives that this is a table.
         let _ = table.len();
         let Ok(()) = self.undone.reserve(1) else {
             drop((live, table));
@@ -474,7 +473,7 @@ impl Line {
         Ok(())
     }
 
-    /// The entry at a place, also while the line is open.
+    /// Returns the entry at a place, also while the line is open.
     pub(crate) fn step_at(&self, place: usize) -> &Entry
         requires { place + 1 < length (states self.now.line) }
         ensures { IsStepAt self.now.line place result.now }
@@ -487,7 +486,7 @@ impl Line {
         }
     }
 
-    /// Turns the state at a place into the one after it. Out of memory, it stays as it was.
+    /// Turns the state at a place into the one after it. If memory runs out, it stays as it was.
     pub fn step_on(
         &self,
         alloc: Global,
@@ -508,7 +507,7 @@ impl Line {
         Ok(())
     }
 
-    /// The state at a place up to the cursor, from the current one.
+    /// Returns the state at a place up to the cursor, going back from the current one.
     fn walk_back(
         &self,
         alloc: Global,
@@ -528,7 +527,7 @@ impl Line {
         Ok((live, table))
     }
 
-    /// The state at a place from the cursor on, from the current one.
+    /// Returns the state at a place from the cursor on, going on from the current one.
     pub(crate) fn walk_on(
         &self,
         alloc: Global,

@@ -10,14 +10,14 @@ use crate::entry::Entry;
 use rc_set::NoMem;
 use std::collections::VecDeque;
 
-/// The nearest entry, if there is one.
+/// Returns the nearest entry, if there is one.
 pub(crate) fn nearest(stack: &VecDeque<Entry>) -> Option<&Entry>
     ensures { option_copied result ≡ slice_get stack.now.items (length stack.now.items - 1) }
 {
     stack.back()
 }
 
-/// Takes the nearest entry.
+/// Removes the nearest entry and returns it.
 pub(crate) fn take_last(stack: &mut VecDeque<Entry>) -> Entry
     requires { 0 < deque_len stack.old }
     ensures items { stack.old.items ≡ stack.new.items ++ result ∷ [] }
@@ -29,7 +29,7 @@ pub(crate) fn take_last(stack: &mut VecDeque<Entry>) -> Entry
     }
 }
 
-/// Lets the farthest entry go.
+/// Drops the farthest entry.
 pub(crate) fn drop_first(stack: &mut VecDeque<Entry>)
     requires { 0 < deque_len stack.old }
     ensures { (gone : Entry) × (stack.old.items ≡ gone ∷ stack.new.items) }
@@ -40,7 +40,7 @@ pub(crate) fn drop_first(stack: &mut VecDeque<Entry>)
     }
 }
 
-/// Lets all entries go.
+/// Drops all entries.
 pub(crate) fn spend_all(stack: &mut VecDeque<Entry>)
     ensures items { stack.new.items ≡ [] }
     ensures capacity { deque_capacity stack.new ≡ deque_capacity stack.old }
@@ -50,8 +50,8 @@ pub(crate) fn spend_all(stack: &mut VecDeque<Entry>)
     }
 }
 
-/// Lets one entry go where there is one too many: the farthest behind or, where that is the nearest
-/// too, the farthest ahead.
+/// Drops one entry if there is one too many: the farthest behind or, if fewer than two are behind,
+/// the farthest ahead. The nearest on each side stays.
 pub(crate) fn fit(done: &mut VecDeque<Entry>, undone: &mut VecDeque<Entry>, bound: u32)
     requires { 3 ≤ bound }
     ensures { IsFit bound done.old.items undone.old.items done.new.items undone.new.items }
@@ -67,8 +67,8 @@ pub(crate) fn fit(done: &mut VecDeque<Entry>, undone: &mut VecDeque<Entry>, boun
     }
 }
 
-/// Returns the room that the nearest entry does not use. A closing takes no memory, so it leaves
-/// its entry with all the room that the opening made.
+/// Frees the room that the nearest entry does not use. A closing takes no memory, so it leaves its
+/// entry with all the room that the opening made.
 fn trim(stack: &mut VecDeque<Entry>)
     ensures { stack.new.items ≡ stack.old.items }
 {

@@ -13,9 +13,9 @@ use rc_db::Table;
 use rc_set::Set;
 use std::collections::VecDeque;
 
-/// Ends a move over the nearest entry of a stack, ahead or back. Where the move ends as it aimed,
-/// the entry goes to the other stack. Where nothing moved, it stays. Anywhere else it is split in
-/// two. Takes no memory.
+/// Ends a move over the nearest entry of a stack, ahead or back. If the move ends as it aimed, the
+/// entry goes to the other stack. If nothing moved, it stays. Otherwise it is split in two. Takes
+/// no memory.
 pub(crate) fn end_step(
     from: &mut VecDeque<Entry>,
     to: &mut VecDeque<Entry>,

@@ -11,7 +11,8 @@ use rc_set::{NoMem, Set};
 use std::alloc::{AllocError, Global};
 
 impl Line {
-    /// The line of some states, with the cursor at a place. Out of memory, the states are gone.
+    /// Creates the line of some states, with the cursor at a place. If memory runs out, the states
+    /// are lost.
     pub fn from_states(
         alloc: Global,
         mut held: Vec<(Set, Table)>,
@@ -38,7 +39,7 @@ impl Line {
         Ok(line)
     }
 
-    /// Another line of the same states, with the cursor at the same place. It is not open.
+    /// Creates another line of the same states, with the cursor at the same place. It is not open.
     pub fn copy(&self, alloc: Global) -> Result<Line, NoMem>
         ensures { IfOk result (λ line. line ≡ record { line = self.now.line; is_open = false }) }
     {
@@ -80,7 +81,7 @@ fn go_to(alloc: Global, line: &mut Line, place: usize) -> Result<(), NoMem>
     Ok(())
 }
 
-/// The table that a move leads to, also where it is the one at hand.
+/// Returns the table that a move leads to, which is a copy of the one at hand if the move has none.
 fn table_of(alloc: Global, next: Option<Table>, table: &Table) -> Result<Table, NoMem>
     ensures { IfOk result (λ whole. whole ≡ table_or next table.now) }
 {

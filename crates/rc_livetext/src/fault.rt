@@ -11,13 +11,14 @@ use thiserror::Error;
 /// Why bytes are not the text of a line of a database.
 #[derive(Clone, Copy, PartialEq, Eq, Debug, Error)]
 pub enum LiveFault {
-    /// The line at this offset has not the form that is due there, or more bytes follow the text.
+    /// The line at this offset does not have the form that is due there, or more bytes follow the
+    /// text.
     Bad(usize),
     /// The first line names another version.
     Version,
     /// A name stands for no service, or a bundle has the name of one.
     Unknown,
-    /// In the state at this place, from 0, something is up of which a need is not.
+    /// In the state at this place, counted from 0, a service is up without all that it needs.
     NotClosed(usize),
     /// Two states in a row are equal.
     SameState,
@@ -28,7 +29,7 @@ pub enum LiveFault {
     OverBound,
 }
 
-// What is told of a fault, but for where it is.
+// Returns the message of a fault, without its place.
 fn told_of(fault: &LiveFault) -> &'static str {
     match fault {
         LiveFault::Bad(_) => "a line has not the form that is due",
@@ -52,7 +53,7 @@ impl fmt::Display for LiveFault {
     }
 }
 
-/// A fault of the text of a session in words.
+/// Returns the words that commands print for a fault of the text of a session.
 pub fn live_word(alloc: Global, fault: LiveFault) -> Result<Vec<u8>, NoMem>
     ensures { IfOk result (λ text. text.items ≡ live_word fault) }
 {

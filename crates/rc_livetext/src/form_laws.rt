@@ -13,13 +13,14 @@ pub fn text_is_unique()
         → live_text a ++ x ≡ live_text b ++ y → a ≡ b }
 {}
 
-/// Bytes that begin with a text are refused by no line of it, whatever follows.
+/// Bytes that begin with a text are refused only if memory runs out, whatever follows the text.
 pub fn text_is_not_refused()
     ensures { (t : LiveText) (rest : List ℕ) (fault : FormFault) → IsLiveText t
         → IsRefused (live_text t ++ rest) fault → fault ≡ Memory }
 {}
 
-/// What refuses bytes is one: a line that is bad at one place, or another version.
+/// Bytes are refused for one fault only, out of memory aside: a bad line at one place, or another
+/// version.
 pub fn refusals_are_one()
     ensures { (bytes : List ℕ) (a b : FormFault) → IsRefused bytes a → IsRefused bytes b
         → a ≢ Memory → b ≢ Memory → a ≡ b }

@@ -16,7 +16,7 @@ use rc_dbtext::lexer::{BundleForm, NameWord, is_before};
 use std::alloc::{AllocError, Global};
 use std::marker::Model;
 
-/// The most bundles of a state.
+/// The maximum number of bundles of a state.
 const MAX_BUNDLES: usize = 4096;
 
 /// A state as the text gives it.
@@ -34,7 +34,8 @@ impl<'a> Model for StateForm<'a> {
     ghost view = { λ s. record { live = s.live.items; bundles = s.bundles.items } };
 }
 
-/// The states before the current one, what is up in that, and what follows its line.
+/// Reads the states up to the line of the current one. Returns the states before it, the names of
+/// what is up in it, and the bytes after its line.
 pub(crate) fn states_to_current<'a>(
     alloc: Global,
     bytes: &'a [u8],
@@ -61,7 +62,8 @@ pub(crate) fn states_to_current<'a>(
     }
 }
 
-/// The states after the current one, and what follows the last line.
+/// Reads the states after the current one, and the last line. Returns the states and the bytes
+/// after that line.
 pub(crate) fn states_to_last<'a>(
     alloc: Global,
     bytes: &'a [u8],
@@ -92,7 +94,7 @@ pub(crate) fn states_to_last<'a>(
     }
 }
 
-/// As many bundles as may follow the line of a state, and what follows them.
+/// Reads as many bundles as may follow the line of a state. Returns them and the bytes after them.
 pub(crate) fn bundles_at<'a>(
     alloc: Global,
     bytes: &'a [u8],
@@ -120,7 +122,8 @@ pub(crate) fn bundles_at<'a>(
     }
 }
 
-// The bundle whose line is in front, and what follows it.
+// Reads the line of a bundle at the front of bytes. Returns the bundle and the bytes after its
+// line, or `None` if no such line stands there.
 fn bundle_line<'a>(
     alloc: Global,
     bytes: &'a [u8],
@@ -140,14 +143,15 @@ fn bundle_line<'a>(
     Ok(Some((bundle, rest)))
 }
 
-// Whether the line of a bundle may begin here. Most lines show by their first byte that none does.
+// Returns true if the line of a bundle may begin here. The first byte of most other lines shows
+// that none does.
 fn may_be_bundle(bytes: &[u8]) -> bool
     ensures { OnFalse result (HasNo IsBundleText OfBundle bytes.now) }
 {
     !bytes.is_empty() && bytes[0] == b'b'
 }
 
-// Whether a bundle may follow others.
+// Returns true if a bundle may follow others.
 fn may_add(bundles: &[BundleForm<'_>], bundle: &BundleForm<'_>) -> bool
     requires before { AreBundles bundles.now }
     requires bundle { IsBundleText bundle.now }
@@ -160,7 +164,7 @@ fn may_add(bundles: &[BundleForm<'_>], bundle: &BundleForm<'_>) -> bool
     has_room && comes_before(last, bundle)
 }
 
-// Whether the name of a bundle comes before that of another.
+// Returns true if the name of a bundle comes before that of another.
 fn comes_before(first: &BundleForm<'_>, second: &BundleForm<'_>) -> bool
     ensures { IsTrue result ↔ IsBefore first.now.name second.now.name }
 {

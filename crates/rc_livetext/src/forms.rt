@@ -13,7 +13,7 @@ use std::marker::Model;
 #[derive(Drop)]
 pub struct LiveForm<'a> {
     pub services: Vec<NameWord<'a>>,
-    /// How many states there may be, where the text says so.
+    /// The bound on the number of states, if the text has one.
     pub bound: Option<u32>,
     pub before: Vec<StateForm<'a>>,
     pub current: StateForm<'a>,
@@ -34,7 +34,7 @@ impl<'a> Model for LiveForm<'a> {
     } };
 }
 
-/// What the text at the beginning says, and what follows it.
+/// Parses the live text at the front of bytes. Returns its form and the bytes after it.
 pub fn read_form<'a>(alloc: Global, bytes: &'a [u8]) -> Result<(LiveForm<'a>, &'a [u8]), FormFault>
     ensures ok { IfOk result (λ read. BeginsWith bytes.now read.0 read.1.now) }
     ensures fault { IfErr result (IsRefused bytes.now) }

@@ -13,7 +13,8 @@ use crate::lines::{LineForm, line_of, version_of};
 use rc_dbtext::lexer::{NameWord, number_line};
 use std::alloc::Global;
 
-/// The names of all services, how many states there may be, and what follows.
+/// Reads the head of a live text. Returns the names of all services, the bound on the number of
+/// states, if the text has one, and the bytes after the head.
 pub(crate) fn head<'a>(
     alloc: Global,
     bytes: &'a [u8],
@@ -31,7 +32,7 @@ pub(crate) fn head<'a>(
     Ok((services, Some(bound), rest))
 }
 
-// Whether the text has a bound, and what follows its first line.
+// Reads the first line. Returns whether the text has a bound, and the bytes after the line.
 fn first_line(bytes: &[u8]) -> Result<(bool, &[u8]), FormFault>
     ensures ok { IfOk result (λ read. bytes.now ≡ spell (text.First read.0) ++ read.1.now) }
     ensures fault { IfErr result (IsRefused bytes.now) }
@@ -45,7 +46,7 @@ fn first_line(bytes: &[u8]) -> Result<(bool, &[u8]), FormFault>
     }
 }
 
-// The names of all services, and what follows their line.
+// Reads the line of all services. Returns their names and the bytes after the line.
 fn services_line<'a>(
     alloc: Global,
     bytes: &'a [u8],
@@ -64,7 +65,8 @@ fn services_line<'a>(
     }
 }
 
-// How many states there may be, and what follows that line.
+// Reads the line of the bound. Returns the bound on the number of states and the bytes after the
+// line.
 fn bound_line(alloc: Global, bytes: &[u8]) -> Result<(u32, &[u8]), FormFault>
     ensures ok { IfOk result (λ read. IsBound read.0
         × (bytes.now ≡ spell (text.OfBound read.0) ++ read.1.now)) }
@@ -80,7 +82,7 @@ fn bound_line(alloc: Global, bytes: &[u8]) -> Result<(u32, &[u8]), FormFault>
     }
 }
 
-/// The line in front, whatever it says, and what follows it.
+/// Reads the line at the front of bytes, of whatever kind. Returns it and the bytes after it.
 pub(crate) fn next_line<'a>(
     alloc: Global,
     bytes: &'a [u8],

@@ -4,7 +4,7 @@ ghost use Rattle.std.specs.Prelude.{◌≡◌, ◌↔◌, IsTrue};
 use rc_dbtext::lexer::NameWord;
 use rc_names::Names;
 
-/// Whether these are the names of the services, in their order.
+/// Returns true if the given texts are the names of the services, in their order.
 pub(crate) fn are_services(texts: &[NameWord<'_>], names: &Names) -> bool
     ensures { IsTrue result ↔ (texts.now ≡ names.now) }
 {

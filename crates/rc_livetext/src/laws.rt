@@ -19,8 +19,8 @@ pub fn lines_are_texts()
         → IsLiveText (old_text_of d line) }
 {}
 
-/// No text of a line is a proper prefix of another text, whatever the database; and of one database
-/// each is the text of one line.
+/// No text of a line is a proper prefix of another text, whatever the database. For one database,
+/// each text is the text of one line.
 pub fn spelling_is_unique()
     ensures front { (d e : Database) (a b : Line) (rest : List ℕ) → IsDatabase d → IsDatabase e
         → IsLineOf d a → IsLineOf e b → spelling d a ++ rest ≡ spelling e b → rest ≡ [] }
@@ -33,7 +33,7 @@ pub fn spelling_is_unique()
     text_is_unique();
 }
 
-/// What refuses bytes is one, out of memory aside: the tests exclude each other.
+/// Bytes are refused for one fault only, out of memory aside: the tests exclude each other.
 pub fn faults_are_one()
     ensures { (d : Database) (bytes : List ℕ) (a b : LiveFault)
         → IsLiveFault d bytes a → IsLiveFault d bytes b → a ≢ Memory → b ≢ Memory → a ≡ b }
@@ -43,7 +43,7 @@ pub fn faults_are_one()
     refusals_are_one();
 }
 
-/// The text of a line is refused as out of memory alone, in both forms: so what was written is
+/// The text of a line, in both forms, is refused only if memory runs out. So what was written is
 /// read back as the line that it was.
 pub fn spelling_is_not_refused()
     ensures new { (d : Database) (line : Line) (fault : LiveFault) → IsDatabase d

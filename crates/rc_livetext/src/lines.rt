@@ -1,4 +1,4 @@
-//! The lines of a live text, each by what it says, wherever it stands.
+//! The lines of a live text, each parsed by itself, wherever it stands.
 ghost use Rattle.std.specs.Prelude.{◌≡◌, ℕ, List, [], ◌∷◌, ◌++◌, Bool, codes};
 ghost use Rattle.std.specs.Prelude.{IfOk, MatchOption};
 ghost use Rattle.std.specs.Fmt.{decimal};
@@ -10,7 +10,7 @@ ghost use Rattle.rc_livetext.specs.FormText.{line_text};
 use rc_dbtext::lexer::{BundleForm, NameWord, Words, ascend, is, names_of, number_of, words_of};
 use std::alloc::{AllocError, Global};
 
-/// A line by what it says.
+/// A line of a live text.
 #[derive(Drop)]
 pub enum LineForm<'a> {
     First(bool),
@@ -21,7 +21,8 @@ pub enum LineForm<'a> {
     Last,
 }
 
-/// The line in front, and what follows it. None: no line of a live text stands there.
+/// Reads the line at the front of bytes. Returns it and the bytes after it, or `None` if no line of
+/// a live text stands there.
 pub(crate) fn line_of<'a>(
     alloc: Global,
     bytes: &'a [u8],
@@ -40,7 +41,7 @@ pub(crate) fn line_of<'a>(
     }
 }
 
-// The line of these words, if they are one's.
+// Parses words into a line, if they are those of a line.
 fn said<'a>(alloc: Global, words: Words<'a>) -> Result<Option<LineForm<'a>>, AllocError>
     ensures { IfOk result (λ line. MatchOption line
         (SaysNone words.entry) (λ line. Says words.entry (line_text line))) }
@@ -62,7 +63,7 @@ fn said<'a>(alloc: Global, words: Words<'a>) -> Result<Option<LineForm<'a>>, All
     }
 }
 
-// The line of a state that has these names.
+// Parses the words after the first one into the line of a state.
 fn said_state<'a>(
     alloc: Global,
     current: bool,
@@ -79,7 +80,7 @@ fn said_state<'a>(
     }
 }
 
-// The line of services that has these names.
+// Parses the words after the first one into the line of services.
 fn said_services<'a>(alloc: Global, others: Words<'a>) -> Result<Option<LineForm<'a>>, AllocError>
     ensures { IfOk result (λ line. MatchOption line
         (SaysNone (codes "services" ∷ others.entry))
@@ -91,7 +92,7 @@ fn said_services<'a>(alloc: Global, others: Words<'a>) -> Result<Option<LineForm
     }
 }
 
-// The line of a bundle that has these words.
+// Parses the words after the first one into the line of a bundle.
 fn said_bundle<'a>(alloc: Global, others: Words<'a>) -> Result<Option<LineForm<'a>>, AllocError>
     ensures { IfOk result (λ line. MatchOption line
         (SaysNone (codes "bundle" ∷ others.entry))
@@ -110,7 +111,7 @@ fn said_bundle<'a>(alloc: Global, others: Words<'a>) -> Result<Option<LineForm<'
     }
 }
 
-// The line of a first word and others, without names.
+// Parses a first word and others into a line that has no names.
 fn said_plainly<'a>(first: &str, others: Words<'_>) -> Option<LineForm<'a>>
     requires now { first.now ≡ codes "now" → ⊥ }
     requires up { first.now ≡ codes "up" → ⊥ }
@@ -129,7 +130,7 @@ fn said_plainly<'a>(first: &str, others: Words<'_>) -> Option<LineForm<'a>>
     }
 }
 
-// The line of one word, without names.
+// Parses one word into a line that has no names.
 fn said_alone<'a>(first: &str) -> Option<LineForm<'a>>
     requires now { first.now ≡ codes "now" → ⊥ }
     requires up { first.now ≡ codes "up" → ⊥ }
@@ -145,7 +146,7 @@ fn said_alone<'a>(first: &str) -> Option<LineForm<'a>>
     }
 }
 
-// The line of two words, without names.
+// Parses two words into a line that has no names.
 fn said_of_two<'a>(first: &str, other: &str) -> Option<LineForm<'a>>
     requires now { first.now ≡ codes "now" → ⊥ }
     requires up { first.now ≡ codes "up" → ⊥ }
@@ -165,7 +166,7 @@ fn said_of_two<'a>(first: &str, other: &str) -> Option<LineForm<'a>>
     }
 }
 
-// The bound that a word says.
+// Parses a word into a bound.
 fn bound_of(word: &str) -> Option<u32>
     ensures { MatchOption result ((n : ℕ) → IsBound n → word.now ≡ decimal n → ⊥)
         (λ n. IsBound n × (word.now ≡ decimal n)) }
@@ -175,7 +176,7 @@ fn bound_of(word: &str) -> Option<u32>
     if is_enough { Some(bound) } else { None }
 }
 
-/// Whether the version that a word says has a bound.
+/// Parses the word of a version. Returns true if a text of that version has a bound.
 pub(crate) fn version_of(word: &str) -> Option<bool>
     ensures { MatchOption result ((bounded : Bool) → word.now ≡ version_word bounded → ⊥)
         (λ bounded. word.now ≡ version_word bounded) }
@@ -189,7 +190,7 @@ pub(crate) fn version_of(word: &str) -> Option<bool>
     }
 }
 
-// The words as names that ascend, if they are such.
+// Parses words into names, if each is a name and they ascend.
 fn ascending<'a>(alloc: Global, words: Words<'a>) -> Result<Option<Vec<NameWord<'a>>>, AllocError>
     ensures { IfOk result (λ names. MatchOption names
         (AreAscending words.entry → ⊥)

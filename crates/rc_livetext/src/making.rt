@@ -12,10 +12,10 @@ use rc_db::Table;
 use rc_graph::Graph;
 use rc_set::Set;
 
-// How many states there may be, where an older text does not say it.
+// The least bound on the number of states for an older text, which has none.
 const USUAL_BOUND: u32 = 1024;
 
-/// How many states there may be in the line that these make, or why they make none.
+/// Returns the bound of the line that the given states make, or the fault for which they make none.
 pub(crate) fn bound_of_line(
     held: &[(Set, Table)],
     said: Option<u32>,
@@ -38,7 +38,7 @@ pub(crate) fn bound_of_line(
     }
 }
 
-// The place of the first state in which something is up without all that it needs.
+// Returns the place of the first state in which a service is up without all that it needs.
 fn first_open(held: &[(Set, Table)], graph: &Graph) -> Option<usize>
     requires { All (IsWithin (length graph.now)) (states_of held.now) }
     ensures { MatchOption result (All (HasNeeds graph.now) (states_of held.now))
@@ -52,7 +52,7 @@ fn first_open(held: &[(Set, Table)], graph: &Graph) -> Option<usize>
     None
 }
 
-// Whether what is up in a state has all that it needs up.
+// Returns true if all that the live services of a state need is live too.
 #[tactic(auto, unfolding(crate::specs::Parts::HasNeeds))]
 fn has_needs(state: &(Set, Table), graph: &Graph) -> bool
     requires { length state.now.0 ≡ length graph.now }
@@ -62,7 +62,7 @@ fn has_needs(state: &(Set, Table), graph: &Graph) -> bool
     graph.closed(&state.0)
 }
 
-// Whether each state differs from the next one.
+// Returns true if each state differs from the next one.
 fn differ(held: &[(Set, Table)]) -> bool
     requires { (bound : ℕ) × All (IsWithin bound) (states_of held.now) }
     ensures { IsTrue result ↔ DifferInTurn (states_of held.now) }
@@ -75,7 +75,7 @@ fn differ(held: &[(Set, Table)]) -> bool
     true
 }
 
-// Whether two states are the same.
+// Returns true if two states are the same.
 fn are_same(one: &(Set, Table), other: &(Set, Table)) -> bool
     requires { length one.now.0 ≡ length other.now.0 }
     ensures { IsTrue result ↔ (one.now ≡ other.now) }
@@ -83,7 +83,7 @@ fn are_same(one: &(Set, Table), other: &(Set, Table)) -> bool
     one.0.same(&other.0) && one.1.same(&other.1)
 }
 
-// How many states there may be in a line of so many, if there may be so many.
+// Returns the bound of a line of `count` states, if it may have that many.
 fn bound_of(said: Option<u32>, count: usize) -> Option<u32>
     requires { IfSome said IsBound }
     ensures { MatchOption result (most_states said < count)

@@ -22,7 +22,8 @@ use rc_line::Line;
 use rc_set::Set;
 use std::alloc::Global;
 
-/// The line whose text the bytes are, and how many states it has.
+/// Parses the text of a line, which must be all of the bytes. Returns the line and the number of
+/// its states.
 pub fn read_live(alloc: Global, bytes: &[u8], db: &Db) -> Result<(Line, usize), LiveFault>
     ensures text { IfOk result (λ read. Spells db.now bytes.now read.0.line) }
     ensures line { IfOk result (λ read.
@@ -43,7 +44,7 @@ pub fn read_live(alloc: Global, bytes: &[u8], db: &Db) -> Result<(Line, usize), 
     }
 }
 
-// What a text says that is all of the bytes.
+// Parses a live text, which must be all of the bytes, into its form.
 fn whole_form<'a>(alloc: Global, bytes: &'a [u8]) -> Result<LiveForm<'a>, LiveFault>
     ensures ok { IfOk result (λ form. BeginsWith bytes.now form []) }
     ensures fault { IfErr result (λ fault. (d : Database) → IsLiveFault d bytes.now fault) }
@@ -59,7 +60,7 @@ fn whole_form<'a>(alloc: Global, bytes: &'a [u8]) -> Result<LiveForm<'a>, LiveFa
     }
 }
 
-// A fault of the form, told by where the line begins.
+// Returns the fault of a text for a fault of its form, with the offset at which the line begins.
 fn told(fault: FormFault, bytes: &[u8]) -> LiveFault
     requires { IsRefused bytes.now fault }
     ensures { (d : Database) → IsLiveFault d bytes.now result }
@@ -71,7 +72,7 @@ fn told(fault: FormFault, bytes: &[u8]) -> LiveFault
     }
 }
 
-// The line of what a text says.
+// Creates the line of a text, given the form of the text.
 fn line_of(alloc: Global, form: &LiveForm<'_>, db: &Db) -> Result<Line, LiveFault>
     requires { IsLiveText form.now }
     ensures text { IfOk result (λ line. IsTextOf db.now form.now line.line form.now.bound) }
@@ -89,7 +90,7 @@ fn line_of(alloc: Global, form: &LiveForm<'_>, db: &Db) -> Result<Line, LiveFaul
     }
 }
 
-// The line of the states of a text whose names are those of the database.
+// Creates the line of the states of a text whose names are those of the database.
 fn joined(
     alloc: Global,
     form: &LiveForm<'_>,
@@ -104,7 +105,7 @@ fn joined(
     ensures line { IfOk result (λ line. IsLineOf db.now line.line × (line.is_open ≡ false)) }
     ensures fault { IfErr result (IsMeaningFault db.now form.now) }
 {
-    // The names tell that it is a database.
+    // The contract of `names` gives that this is a database.
     let _names = db.names();
     let bound = match bound_of_line(held.as_slice(), form.bound, db.graph()) {
         Ok(bound) => bound,
@@ -116,7 +117,7 @@ fn joined(
     let Ok(line) = Line::from_states(alloc, held, form.before.len(), bound) else {
         return Err(LiveFault::Memory);
     };
-    // A line tells by the number of its states that it is one.
+    // The contract of `states` gives that this is a line.
     let _count = line.states();
     Ok(line)
 }

@@ -1,4 +1,4 @@
-//! The states of a line, made of what a text says.
+//! The states of a line, made from the form of a text.
 ghost use Rattle.std.specs.Prelude.{◌≡◌, ◌↔◌, ◌++◌, ◌∷◌, [], length, All, IsTrue};
 ghost use Rattle.std.specs.Prelude.{IfOk, IfSome, IfNone};
 ghost use Rattle.rc_line.specs.State.{states_of};
@@ -15,8 +15,8 @@ use rc_names::Names;
 use rc_set::Set;
 use std::alloc::{AllocError, Global};
 
-/// The states that a text says, from the oldest to the newest, or nothing where a state names what
-/// it may not.
+/// Returns the states of a text, from the oldest to the newest, or `None` if a state has a name
+/// that it may not have.
 pub(crate) fn states_in(
     alloc: Global,
     form: &LiveForm<'_>,
@@ -46,7 +46,8 @@ pub(crate) fn states_in(
     }
 }
 
-// The states of a text after others. False: one of them names what it may not.
+// Adds the states of a text to others. Returns false if one of them has a name that it may not
+// have.
 fn push_all(
     alloc: Global,
     held: &mut Vec<(Set, Table)>,
@@ -71,7 +72,7 @@ fn push_all(
     push_states(alloc, held, form.after.as_slice(), names)
 }
 
-// Some states after others. False: one of them names what it may not.
+// Adds some states to others. Returns false if one of them has a name that it may not have.
 fn push_states(
     alloc: Global,
     held: &mut Vec<(Set, Table)>,
@@ -94,7 +95,7 @@ fn push_states(
     Ok(true)
 }
 
-// A state after others. False: it names what it may not.
+// Adds a state to others. Returns false if it has a name that it may not have.
 fn push_state(
     alloc: Global,
     held: &mut Vec<(Set, Table)>,
@@ -116,8 +117,8 @@ fn push_state(
     Ok(true)
 }
 
-// The live set and the table that a text says of a state, or nothing where it names what it may
-// not.
+// Returns the live set and the table of a state in a text, or `None` if the state has a name that
+// it may not have.
 fn state_in(
     alloc: Global,
     form: &StateForm<'_>,

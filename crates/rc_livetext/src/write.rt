@@ -19,7 +19,7 @@ use rc_session::Session;
 use rc_set::Set;
 use std::alloc::Global;
 
-/// The text of a session's line. While a run is begun the line has none.
+/// Returns the text of a session's line. The line has no text while a run is begun.
 pub fn write_live(alloc: Global, session: &Session) -> Result<Vec<u8>, NoMem>
     requires { session.now.begun ≡ false }
     ensures { IfOk result (λ text. text.items ≡ spelling session.now.database session.now.line) }
@@ -33,7 +33,7 @@ pub fn write_live(alloc: Global, session: &Session) -> Result<Vec<u8>, NoMem>
     Ok(out)
 }
 
-// The lines in front of the states.
+// Appends the lines before the states.
 fn push_head(alloc: Global, out: &mut Vec<u8>, names: &Names, bound: u32) -> Result<(), NoMem>
     ensures { OnOk result (out.new.items
         ≡ out.old.items ++ spells spell (head_lines names.now (Some bound))) }
@@ -44,7 +44,7 @@ fn push_head(alloc: Global, out: &mut Vec<u8>, names: &Names, bound: u32) -> Res
     Ok(())
 }
 
-// The line of how many states there may be.
+// Appends the line of the bound on the number of states.
 fn push_bound(alloc: Global, out: &mut Vec<u8>, bound: u32) -> Result<(), NoMem>
     ensures { OnOk result (out.new.items ≡ out.old.items ++ spell (OfBound bound)) }
 {
@@ -52,7 +52,7 @@ fn push_bound(alloc: Global, out: &mut Vec<u8>, bound: u32) -> Result<(), NoMem>
     push_line(out, b"bound", number.as_bytes())
 }
 
-// The line of all services.
+// Appends the line of all services.
 fn push_services(out: &mut Vec<u8>, names: &Names) -> Result<(), NoMem>
     ensures { OnOk result (out.new.items ≡ out.old.items ++ spell (OfServices names.now)) }
 {
@@ -64,7 +64,7 @@ fn push_services(out: &mut Vec<u8>, names: &Names) -> Result<(), NoMem>
     Ok(())
 }
 
-// All states.
+// Appends the lines of all states.
 fn push_whole(alloc: Global, out: &mut Vec<u8>, names: &Names, line: &Line) -> Result<(), NoMem>
     requires closed { line.now.is_open ≡ false }
     requires sets { All (IsWithin (length names.now)) (states line.now.line) }
@@ -77,7 +77,7 @@ fn push_whole(alloc: Global, out: &mut Vec<u8>, names: &Names, line: &Line) -> R
     pushed
 }
 
-// All states in turn, from the first one on: each entry is taken once.
+// Appends the lines of all states in turn, from the first one on. Takes each entry once.
 fn push_states(
     alloc: Global,
     out: &mut Vec<u8>,
@@ -102,7 +102,7 @@ fn push_states(
     Ok(())
 }
 
-// The lines of a state.
+// Appends the lines of a state.
 fn push_state(
     alloc: Global,
     out: &mut Vec<u8>,
@@ -120,7 +120,7 @@ fn push_state(
     Ok(())
 }
 
-// The line of what is live in a state.
+// Appends the line of the live services of a state.
 fn push_live(
     alloc: Global,
     out: &mut Vec<u8>,
@@ -138,14 +138,14 @@ fn push_live(
     Ok(())
 }
 
-// How the line of a state begins.
+// Returns the first word of the line of a state.
 fn word_of(current: bool) -> &'static [u8]
     ensures { result.now ≡ state_word current }
 {
     if current { b"now" } else { b"up" }
 }
 
-// The lines of bundles.
+// Appends the lines of bundles.
 fn push_bundles(alloc: Global, out: &mut Vec<u8>, names: &Names, table: &Table) -> Result<(), NoMem>
     requires { HaveBound (length names.now) table.now }
     ensures { OnOk result (out.new.items ≡ out.old.items ++ bundle_bytes names.now table.now) }

@@ -8,7 +8,7 @@ use std::alloc::AllocError;
 use std::fmt;
 use thiserror::Error;
 
-/// The most services that a database has; of bundles it has no more than that either.
+/// The most services that a database has. It has no more bundles than that either.
 pub const MAX_NAMES: u16 = 4096;
 
 /// What a name stands for.
@@ -37,7 +37,7 @@ pub enum Mode {
 /// Why there is no plan. The first fault in this order is the one that is reported.
 #[derive(Clone, Copy, PartialEq, Eq, Debug, Error)]
 pub enum PlanFault {
-    /// Only a change upwards prunes, that is, lets go what is not wanted.
+    /// Only a change upwards prunes, that is, takes down what is not wanted.
     PruneNeedsUp,
     /// The word at this place, counted from 0, is the name of nothing.
     Unknown(usize),
@@ -159,7 +159,7 @@ pub enum Refusal {
     Memory,
 }
 
-// What is told of a refusal.
+// Returns the message of a refusal.
 fn told_of(refusal: &Refusal) -> &'static str {
     match refusal {
         Refusal::BadEvent(_) => "an event is not legal after those before it",

@@ -10,5 +10,5 @@ pub use name::{Name, NameFault, is_name};
 pub use names::{MAX_NAMES, Names};
 use std::alloc::AllocError;
 
-/// Out of memory: the only refusal of the calls that answer it. Nothing has changed.
+/// Out of memory: the only error of the calls that return it. A call that fails changes nothing.
 pub type NoMem = AllocError;

@@ -11,7 +11,7 @@ use thiserror::Error;
 // The most bytes of a name.
 const MAX_BYTES: usize = 255;
 
-// How the names begin that no service may have.
+// The prefix of the names that no service may have.
 const RESERVED: &str = "s6rc-";
 
 /// Why a text is no name. The first fault in this order is the one that is reported.
@@ -24,7 +24,7 @@ pub enum NameFault {
     Memory = 5,
 }
 
-// What is told of a fault.
+// Returns the message of a fault.
 fn told_of(fault: &NameFault) -> &'static str {
     match fault {
         NameFault::Empty => "a name has at least one byte",
@@ -60,7 +60,7 @@ impl Model for Name {
     ghost invariant = { λ name. IsName (string_bytes name.text) };
 }
 
-// Not derived: a crate that lets one go calls this, and proves nothing of its parts.
+// Not derived: a crate that drops a value calls this, and proves nothing of its parts.
 impl Drop for Name {
     fn drop(self) {
         let Name { text: _ } = self;
@@ -91,7 +91,7 @@ impl Name {
         }
     }
 
-    /// The name as text.
+    /// Returns the name as text.
     pub fn text(&self) -> &str
         ensures bytes { result.now ≡ self.now }
         ensures name { IsName self.now }
@@ -99,7 +99,7 @@ impl Name {
         self.text.as_str()
     }
 
-    /// The name that a text is, which [`is_name`] tells.
+    /// Creates a name from a text that [`is_name`] accepts.
     pub fn of(alloc: Global, text: &str) -> Result<Name, NoMem>
         requires { IsName text.now }
         ensures { IfOk result (λ name. name ≡ text.now) }
@@ -108,7 +108,7 @@ impl Name {
         Ok(Name { text })
     }
 
-    /// Another value of the same name.
+    /// Returns a copy of the name.
     pub fn copy(&self, alloc: Global) -> Result<Name, NoMem>
         ensures { IfOk result (λ copy. copy ≡ self.now) }
     {
@@ -116,7 +116,7 @@ impl Name {
     }
 }
 
-/// Whether a text is a name.
+/// Returns true if a text is a name.
 pub fn is_name(text: &str) -> bool
     ensures { IsTrue result ↔ IsName text.now }
 {
@@ -126,7 +126,7 @@ pub fn is_name(text: &str) -> bool
         && !text.starts_with(RESERVED)
 }
 
-// Whether these bytes may stand in a name, the first of them at its start.
+// Returns true if these bytes may stand in a name, the first of them at its start.
 fn has_name_bytes(bytes: &[u8]) -> bool
     ensures { IsTrue result ↔ HasNameBytes bytes.now }
 {

@@ -31,7 +31,7 @@ impl Model for Names {
         × AreNames (values names.table) };
 }
 
-// Not derived: a crate that lets one go calls this, and proves nothing of its parts.
+// Not derived: a crate that drops a value calls this, and proves nothing of its parts.
 impl Drop for Names {
     fn drop(self) {
         let Names { alloc: _, table: _ } = self;
@@ -39,7 +39,7 @@ impl Drop for Names {
 }
 
 impl Names {
-    /// A table of no names, which keeps the allocator.
+    /// Creates an empty table, which keeps the allocator.
     pub fn new(alloc: Global) -> Names
         ensures { result ≡ [] }
     {
@@ -49,7 +49,7 @@ impl Names {
         }
     }
 
-    /// Puts a name in. True: it is new.
+    /// Adds a name. Returns true if the name is new.
     pub fn add(&mut self, name: Name) -> Result<bool, NoMem>
         requires { length self.old < MAX_NAMES }
         ensures added { IfOk result (λ added. IsTrue added ↔ (Contains self.old name → ⊥)) }
@@ -82,7 +82,7 @@ impl Names {
         Ok(())
     }
 
-    /// The id of a text, if it is among the names.
+    /// Returns the id of a text, if it is among the names.
     pub fn find(&self, text: &str) -> Option<u16>
         ensures found { IfSome result (λ id. slice_get self.now id ≡ Some text.now) }
         ensures missing { IfNone result (Contains self.now text.now → ⊥) }
@@ -91,7 +91,7 @@ impl Names {
         Some(place as u16)
     }
 
-    /// The id of a text, if it is among the names. It is looked for at this place first.
+    /// Returns the id of a text, if it is among the names. Looks at the given place first.
     pub fn find_near(&self, text: &str, place: u16) -> Option<u16>
         ensures found { IfSome result (λ id. slice_get self.now id ≡ Some text.now) }
         ensures missing { IfNone result (Contains self.now text.now → ⊥) }
@@ -102,7 +102,7 @@ impl Names {
         self.find(text)
     }
 
-    // Whether a text is the name at this place.
+    // Returns true if a text is the name at the given place.
     fn is_at(&self, text: &str, place: u16) -> bool
         ensures { IsTrue result → slice_get self.now place ≡ Some text.now }
     {
@@ -112,12 +112,13 @@ impl Names {
         }
     }
 
-    /// The id of a name that is given as bytes. Bytes that are no text are no name.
+    /// Returns the id of a name that is given as bytes, if it is among the names. Bytes that are
+    /// not text are no name.
     pub fn find_bytes(&self, name: &[u8]) -> Option<u16>
         ensures found { IfSome result (λ id. slice_get self.now id ≡ Some name.now) }
         ensures missing { IfNone result (Contains self.now name.now → ⊥) }
     {
-        // The length tells that all names are text.
+        // The contract of `len` says that all names are text.
         let _len = self.len();
         match str::from_utf8(name) {
             Ok(text) => self.find(text),
@@ -125,7 +126,7 @@ impl Names {
         }
     }
 
-    /// The name with an id.
+    /// Returns the name with the given id.
     pub fn name_of(&self, id: u16) -> &Name
         requires { id < length self.now }
         ensures { slice_get self.now id ≡ Some result.now }
@@ -133,7 +134,7 @@ impl Names {
         &self.table[id as usize]
     }
 
-    /// How many names there are. The ids are those below it.
+    /// Returns the number of names. The ids are the numbers below it.
     pub fn len(&self) -> u16
         ensures len { result ≡ length self.now }
         ensures names { AreNames self.now }
@@ -141,7 +142,7 @@ impl Names {
         self.table.len() as u16
     }
 
-    /// Whether there are no names.
+    /// Returns true if there are no names.
     pub fn is_empty(&self) -> bool
         ensures { IsTrue result ↔ (self.now ≡ []) }
     {

@@ -6,10 +6,10 @@ ghost use Rattle.rc_recovery.specs.Ends.{ends, last_stop, with_end, with_ends};
 use rc_model::{Event, Outcome};
 use std::alloc::{AllocError, Global};
 
-/// The events of a run that was cut short, and after them the end of each transition that was under
-/// way: it counts as failed, since it was never seen to end.
+/// Returns the events of a run that was cut short, and after them the end of each transition that
+/// was under way. Such a transition counts as failed, since it was never seen to end.
 ///
-/// Time: it grows with the takes times the events.
+/// Time grows with the takes times the events.
 pub fn with_ends(alloc: Global, logged: &[Event]) -> Result<Vec<Event>, AllocError>
     ensures { IfOk result (λ all. all.items ≡ with_ends logged.now) }
 {
@@ -20,7 +20,7 @@ pub fn with_ends(alloc: Global, logged: &[Event]) -> Result<Vec<Event>, AllocErr
     Ok(all)
 }
 
-/// Adds the end of the transition that an event begins, where it has none.
+/// Adds the end of the transition that an event begins, if it has none.
 fn add_end(all: &mut Vec<Event>, event: Event) -> Result<(), AllocError>
     ensures { OnOk result (all.new.items ≡ with_end all.old.items event) }
 {
@@ -33,14 +33,15 @@ fn add_end(all: &mut Vec<Event>, event: Event) -> Result<(), AllocError>
     Ok(all.push(Event::Done(worker, service, Outcome::NotStarted))?)
 }
 
-/// Whether one of the events ends the transition that this worker makes of this service.
+/// Returns true if one of the events ends the transition that the given worker makes of the given
+/// service.
 fn has_end(events: &[Event], worker: u8, service: u16) -> bool
     ensures { result ≡ list_any (ends worker service) events.now }
 {
     events.iter().any(|event| ends(worker, service, *event))
 }
 
-/// Whether an event ends the transition that this worker makes of this service.
+/// Returns true if an event ends the transition that the given worker makes of the given service.
 fn ends(worker: u8, service: u16, event: Event) -> bool
     ensures { result ≡ ends worker service event }
 {
@@ -50,7 +51,7 @@ fn ends(worker: u8, service: u16, event: Event) -> bool
     }
 }
 
-/// The same events, and a stop at the last moment that there is.
+/// Adds a stop to events, at the last moment that there is.
 pub fn with_stop(events: Vec<Event>) -> Result<Vec<Event>, AllocError>
     ensures { IfOk result (λ all. all.items ≡ events.items ++ last_stop ∷ []) }
 {

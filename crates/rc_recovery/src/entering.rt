@@ -13,11 +13,11 @@ use rc_session::{Refusal, Report, Session, Step};
 use std::alloc::Global;
 
 /// Enters what a command that was cut short has moved. The step has the events that were logged of
-/// it. What was under way counts as failed; where that leaves something to do, the run counts as
+/// it. What was under way counts as failed. If that leaves something to do, the run counts as
 /// stopped, so the step must have a limit.
 ///
-/// `BadEvent` and `NotSettled` say that the events are no beginning of a run of this step from
-/// where the session stands. Nothing has changed then.
+/// `BadEvent` and `NotSettled` report that the events do not begin a run of this step from where
+/// the session stands. Then nothing has changed.
 pub fn recover(alloc: Global, session: &mut Session, step: &Step) -> Result<Report, Refusal>
     requires closed { session.old.begun ≡ false }
     requires run { HasRun (command_of step.now) }
@@ -41,7 +41,7 @@ pub fn recover(alloc: Global, session: &mut Session, step: &Step) -> Result<Repo
     answer
 }
 
-/// The events of a step.
+/// Returns the events of a step.
 pub(crate) fn logged(step: &Step) -> &[Event]
     ensures { result.now ≡ events_of (command_of step.now) }
 {
@@ -53,7 +53,7 @@ pub(crate) fn logged(step: &Step) -> &[Event]
     }
 }
 
-/// Carries out a step by a run of these events in place of its own.
+/// Carries out a step by a run of the given events in place of its own.
 fn play(
     alloc: Global,
     session: &mut Session,

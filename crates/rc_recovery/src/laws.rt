@@ -28,8 +28,8 @@ pub fn what_was_logged_is_kept()
         × All (IsEndOf logged) rest }
 {}
 
-/// A service is live after it if it was up or on its way down when the run was cut short: it was
-/// seen to come up, and was not seen to go down.
+/// After a recovery a service is live if it was up or on its way down when the run was cut short:
+/// it was seen to come up, and was not seen to go down.
 pub fn what_is_known_to_be_up_is_live()
     ensures ends { (c : Course) (logged : List Event) (s : ℕ) →
         IsLive c (with_ends logged) s ↔ IsLive c logged s }
@@ -37,7 +37,7 @@ pub fn what_is_known_to_be_up_is_live()
         IsLive c (with_ends logged ++ last_stop ∷ []) s ↔ IsLive c logged s }
 {}
 
-/// A session never refuses the logged events of a run: with the ends of what was under way and a
+/// A session never refuses the logged events of a run. With the ends of what was under way and a
 /// stop they are a settled run of their command.
 pub fn cut_commands_are_entered()
     ensures { (d : Database) (line : Line) (command : Command) (refusal : Refusal) →
@@ -46,7 +46,7 @@ pub fn cut_commands_are_entered()
 {}
 
 /// Several workers log their events, each its own in their order: a take after it was made, and an
-/// end before it counts. Whatever the order of a log then is, its events are a run, and leave the
+/// end before it counts. Whatever the order of the log is then, its events are a run, and leave the
 /// same services live.
 pub fn logs_may_be_reordered()
     ensures run { (c : Course) (steps : List (List Event)) (old new : List Event) →

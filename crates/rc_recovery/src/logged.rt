@@ -11,8 +11,8 @@ use rc_script::{ScriptFault, read_script};
 use rc_session::{NoMem, Step};
 use std::alloc::{AllocError, Global};
 
-/// The events that the run log of a text says of its command, over the services of these names.
-/// There are none where the log is of another text, or fits no command.
+/// Returns the events that the run log of a text has for its command, over the services of the
+/// given names. Returns none if the log is of another text, or fits no command.
 pub fn logged_events(
     alloc: Global,
     names: &Names,
@@ -31,7 +31,7 @@ pub fn logged_events(
     }
 }
 
-/// The events of one step. Of none, or of several, there are none.
+/// Returns the events of one step, and none if there is no step or there are several.
 fn events_of(alloc: Global, steps: &[Step]) -> Result<Vec<Event>, NoMem>
     ensures { IfOk result (λ events. events.items ≡ events_logged (map command_of steps.now)) }
 {

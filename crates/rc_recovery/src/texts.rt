@@ -28,10 +28,10 @@ pub struct Recovered {
     pub report: Vec<u8>,
 }
 
-/// Why nothing can be entered. Services have moved of which the session does not know.
+/// Why nothing can be entered. Services have moved that the session does not know of.
 #[derive(Clone, Copy, PartialEq, Eq, Debug, Error)]
 pub enum RecoverFault {
-    /// The log is none of a run of this database from where the session stands.
+    /// The log is not that of a run of this database from where the session stands.
     #[error("the run log does not fit the session or the database")]
     Log,
     #[error("out of memory")]
@@ -48,9 +48,9 @@ impl From<AllocError> for RecoverFault {
     }
 }
 
-/// Enters what a run log says in the session of a text. None: there is nothing to enter. A log is
-/// the text from which the run began, its step, and its events; one of another text is of a run
-/// that was entered, and a line that was not written whole says nothing.
+/// Enters what a run log says in the session of a text. Returns `None` if there is nothing to
+/// enter. A log is the text from which the run began, its step, and its events. A log of another
+/// text is of a run that was entered. A line that was not written whole says nothing.
 pub fn recover_text(
     alloc: Global,
     db: Db,
@@ -80,7 +80,7 @@ pub fn recover_text(
     }
 }
 
-/// What stands in a log after the text that it begins with.
+/// Returns what stands in a log after the given text, or `None` if the log does not begin with it.
 pub(crate) fn behind<'a>(text: &[u8], log: &'a [u8]) -> Option<&'a [u8]>
     ensures { MatchOption result (IsOther text.now log.now)
         (λ rest. log.now ≡ text.now ++ rest.now) }
@@ -88,7 +88,7 @@ pub(crate) fn behind<'a>(text: &[u8], log: &'a [u8]) -> Option<&'a [u8]>
     log.strip_prefix(text)
 }
 
-/// The lines that end in a newline.
+/// Returns the lines that end in a newline.
 pub(crate) fn whole_lines(bytes: &[u8]) -> &[u8]
     ensures { AreLines bytes.now result.now }
 {
@@ -160,7 +160,7 @@ fn enter_one(
     }
 }
 
-/// Whether an event of a step was logged.
+/// Returns true if an event of a step was logged.
 fn has_events(step: &Step) -> bool
     ensures some { IsTrue result → HasRun (command_of step.now) }
     ensures events { MatchBool result (events_of (command_of step.now) ≢ [])
@@ -174,7 +174,7 @@ fn has_events(step: &Step) -> bool
     }
 }
 
-/// Why a text that is none of the database lets nothing be entered.
+/// Returns the fault of a recovery for a fault of the session's text.
 fn fault_of(fault: LiveFault) -> RecoverFault
     ensures { result ≡ RecoverFault.Log → fault ≢ LiveFault.Memory }
 {
@@ -184,7 +184,7 @@ fn fault_of(fault: LiveFault) -> RecoverFault
     }
 }
 
-/// Enters a step in a session, and reports it.
+/// Enters a step in a session, and returns the new text and the report.
 fn entered_in(alloc: Global, session: &mut Session, step: &Step) -> Result<Recovered, RecoverFault>
     requires fresh { session.old ≡ session_on session.old.database session.old.line }
     requires line { IsLineOf session.old.database session.old.line }
@@ -206,7 +206,7 @@ fn entered_in(alloc: Global, session: &mut Session, step: &Step) -> Result<Recov
     }
 }
 
-/// Why a command that the session refuses is not entered.
+/// Returns the fault of a recovery for a refusal of the command.
 fn fault_by(refusal: Refusal) -> RecoverFault
     ensures { result ≡ RecoverFault.Log → refusal ≢ Refusal.Memory }
 {

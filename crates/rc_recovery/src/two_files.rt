@@ -17,23 +17,23 @@ pub enum FileFault {
 /// The file of a session, and its run log. A write that fails has done what a crash within it may
 /// do: nothing, or a part.
 pub trait TwoFiles {
-    /// What they hold.
+    /// Returns the contents of the two files.
     ghost holds: { Self → Files };
 
-    /// What a crash may have left of them, at some moment since they were opened. It includes what
-    /// they hold, as each call says.
+    /// States that a crash may have left these contents of the files, at some moment since they
+    /// were opened. What they hold is among these contents, as each call says.
     ghost left: { Self → Files → Type 0 };
 
-    /// Whether a call has failed for the device, or one that reads may.
+    /// States that a call has failed because of the device, or that a call that reads may fail so.
     ghost failed: { Self → Type 0 };
 
-    /// The bytes of the file.
+    /// Reads the bytes of the file.
     fn read_file(&self, alloc: Global) -> Result<Vec<u8>, FileFault>
         ensures held { left self.now (holds self.now) }
         ensures bytes { IfOk result (λ bytes. bytes.items ≡ (holds self.now).file) }
         ensures io { IsErrOf result FileFault.Io → failed self.now };
 
-    /// The bytes of the log.
+    /// Reads the bytes of the log.
     fn read_log(&self, alloc: Global) -> Result<Vec<u8>, FileFault>
         ensures held { left self.now (holds self.now) }
         ensures bytes { IfOk result (λ bytes. bytes.items ≡ (holds self.now).log) }
@@ -81,7 +81,7 @@ pub fn begin_log<F: TwoFiles>(files: &mut F, head: &[u8]) -> Result<(), FileFaul
     files.append_log(head)
 }
 
-/// Replaces the file, and then empties the log, which is one of the text before.
+/// Replaces the file, and then empties the log, which belongs to the text before.
 pub fn replace_and_empty<F: TwoFiles>(files: &mut F, text: &[u8]) -> Result<(), FileFault>
     ensures done { OnOk result (F.holds files.new ≡ record { file = text.now; log = [] }) }
     ensures moment { AfterCrash (Replace text.now ∷ Empty ∷ []) (F.holds files.old)

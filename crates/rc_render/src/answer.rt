@@ -10,7 +10,7 @@ use rc_session::{Refusal, Report, Step};
 use rc_set::NoMem;
 use std::alloc::Global;
 
-/// What is answered to a step: what it has done, or why it is refused.
+/// Returns the answer to a step: what it has done, or why it is refused.
 pub fn answer_text(
     alloc: Global,
     names: &Names,

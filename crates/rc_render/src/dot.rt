@@ -13,8 +13,9 @@ use rc_names::{Kind, Name, Names};
 use rc_set::{NoMem, Set};
 use std::alloc::Global;
 
-/// The graph of needs: longruns as boxes, oneshots as ellipses, what is essential with a second
-/// outline, what is live filled, bundles as folders with dashed edges to their members.
+/// Returns the dependency graph as text. Longruns are boxes, and oneshots are ellipses. Essential
+/// services have a second outline, and live services are filled. Bundles are folders with dashed
+/// edges to their members.
 pub fn dot_text(alloc: Global, db: &Db, live: &Set) -> Result<Vec<u8>, NoMem>
     ensures { IfOk result (λ text. text.items ≡ dot_text db.now live.now) }
 {
@@ -36,7 +37,7 @@ fn add_services(text: &mut Vec<u8>, db: &Db, live: &Set) -> Result<(), NoMem>
     Ok(())
 }
 
-/// Appends a service to a text, and the edges to what it needs.
+/// Appends a service to a text, and the edges to its dependencies.
 fn add_service(text: &mut Vec<u8>, db: &Db, live: &Set, id: u16) -> Result<(), NoMem>
     requires { id < length db.now.names }
     ensures { OnOk result (text.new.items ≡ text.old.items ++ service_lines db.now live.now id) }
@@ -49,14 +50,14 @@ fn add_service(text: &mut Vec<u8>, db: &Db, live: &Set, id: u16) -> Result<(), N
     Ok(())
 }
 
-/// Whether a set has an id, which may be any.
+/// Returns true if a set contains an id. The id may be any, also one that is out of bounds.
 fn has(set: &Set, id: u16) -> bool
     ensures { result ≡ slice_index_or set.now id false }
 {
     id < set.bound() && set.contains(id)
 }
 
-/// Appends the edges from a service to what it needs to a text.
+/// Appends the edges from a service to its dependencies to a text.
 fn add_needs(text: &mut Vec<u8>, names: &Names, name: &Name, needs: &[u16]) -> Result<(), NoMem>
     requires { All (λ need. need < length names.now) needs.now }
     ensures { OnOk result (text.new.items ≡ text.old.items
@@ -113,7 +114,7 @@ fn add_node(
     text.extend_from_slice(b"]\n")
 }
 
-/// The shape of a kind.
+/// Returns the shape of a kind.
 fn shape(kind: Kind) -> &'static [u8]
     ensures { result.now ≡ shape kind }
 {
@@ -124,7 +125,7 @@ fn shape(kind: Kind) -> &'static [u8]
     }
 }
 
-/// What tells essential services and live ones from others.
+/// Returns the attributes that mark essential services and live ones.
 fn marks(essential: bool, live: bool) -> &'static [u8]
     ensures { result.now ≡ marks essential live }
 {
@@ -169,7 +170,8 @@ fn add_byte(text: &mut Vec<u8>, byte: u8) -> Result<(), NoMem>
     }
 }
 
-/// What stands between quotes for a byte that can't stand there as it is.
+/// Returns the escape of a byte that can't stand between quotes as it is, or `None` for any other
+/// byte.
 fn escaped(byte: u8) -> Option<&'static [u8]>
     ensures { MatchOption result (quoted_byte byte ≡ byte ∷ [])
         (λ escape. quoted_byte byte ≡ escape.now) }

@@ -18,10 +18,10 @@ use rc_names::{Name, Names};
 use rc_set::{NoMem, Set};
 use std::alloc::Global;
 
-/// The journal of a line.
+/// Returns the journal of a line as text.
 ///
-/// Time: it grows with the entries, and for each with its own length and the number
-/// of services. No state is made.
+/// Takes time that grows with the number of entries, and for each entry with its length and the
+/// number of services. Makes no state.
 pub fn journal_text(alloc: Global, db: &Db, line: &Line) -> Result<Vec<u8>, NoMem>
     requires closed { line.now.is_open ≡ false }
     requires line { IsLineOf db.now line.now.line }
@@ -35,7 +35,7 @@ pub fn journal_text(alloc: Global, db: &Db, line: &Line) -> Result<Vec<u8>, NoMe
     Ok(text)
 }
 
-/// Where the cursor stands, and how many states there are.
+/// Returns the line that gives the place of the cursor and the number of states.
 fn place_line(alloc: Global, line: &Line) -> Result<Vec<u8>, NoMem>
     ensures { IfOk result (λ text. text.items ≡ place_line line.now.line) }
 {
@@ -44,7 +44,7 @@ fn place_line(alloc: Global, line: &Line) -> Result<Vec<u8>, NoMem>
     Ok(format!(in alloc; "at {cursor} of {states}\n")?.into_bytes())
 }
 
-/// The line of the entry at a place.
+/// Returns the line of the entry at a place.
 fn entry_line(alloc: Global, names: &Names, place: usize, entry: &Entry) -> Result<Vec<u8>, NoMem>
     requires { (from : State) × (to : State) × IsEntryBelow (length names.now) from to entry.now }
     ensures { (from to : State) → IsEntryBelow (length names.now) from to entry.now →
@@ -59,14 +59,14 @@ fn entry_line(alloc: Global, names: &Names, place: usize, entry: &Entry) -> Resu
     Ok(text)
 }
 
-/// A number.
+/// Returns a number as text.
 fn number_text(alloc: Global, number: usize) -> Result<Vec<u8>, NoMem>
     ensures { IfOk result (λ text. text.items ≡ decimal number) }
 {
     Ok(format!(in alloc; "{number}")?.into_bytes())
 }
 
-/// The set of these ids.
+/// Creates the set of the given ids.
 fn set_of(alloc: Global, bound: u16, ids: &[u16]) -> Result<Set, NoMem>
     requires bound { bound ≤ 4096 }
     requires ids { All (λ id. id < bound) ids.now }
@@ -109,7 +109,7 @@ fn add_sign(text: &mut Vec<u8>, name: &Name, is_up: bool, is_down: bool) -> Resu
     Ok(())
 }
 
-/// Appends the bundles that altered to a text.
+/// Appends the altered bundles to a text.
 fn add_edit(text: &mut Vec<u8>, names: &Names, edit: &Edit) -> Result<(), NoMem>
     ensures { OnOk result (text.new.items ≡ text.old.items
         ++ flat_map (alteration_text names.now) edit.now) }
@@ -121,7 +121,7 @@ fn add_edit(text: &mut Vec<u8>, names: &Names, edit: &Edit) -> Result<(), NoMem>
     Ok(())
 }
 
-/// Appends a bundle that altered to a text, with both values.
+/// Appends an altered bundle to a text, with its values before and after.
 fn add_alteration(
     text: &mut Vec<u8>,
     names: &Names,

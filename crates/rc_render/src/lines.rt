@@ -7,7 +7,7 @@ use rc_names::{Name, Names};
 use rc_set::{NoMem, Set};
 use std::alloc::Global;
 
-/// The line of a set's names after a word, or nothing where the set is empty.
+/// Returns a line of a word and the names of a set, or an empty text if the set is empty.
 pub(crate) fn set_line(
     alloc: Global,
     word: &[u8],
@@ -21,7 +21,7 @@ pub(crate) fn set_line(
     line_of(alloc, word, names, &ids)
 }
 
-/// The line of names after a word, or nothing where there is none.
+/// Returns a line of a word and the given names, or an empty text if there are none.
 fn line_of(alloc: Global, word: &[u8], names: &Names, ids: &[u16]) -> Result<Vec<u8>, NoMem>
     requires { All (λ id. id < length names.now) ids.now }
     ensures { IfOk result (λ text. text.items ≡ names_line word.now (names_at names.now ids.now)) }
@@ -46,7 +46,7 @@ fn add_name(text: &mut Vec<u8>, name: &Name) -> Result<(), NoMem>
     text.extend_from_slice(name.text().as_bytes())
 }
 
-/// The names of services by their ids, one a line.
+/// Returns the names of services by their ids, one per line.
 pub fn id_lines(alloc: Global, names: &Names, ids: &[u16]) -> Result<Vec<u8>, NoMem>
     requires { All (λ id. id < length names.now) ids.now }
     ensures { IfOk result (λ text. text.items ≡ name_lines (names_at names.now ids.now)) }
@@ -58,7 +58,7 @@ pub fn id_lines(alloc: Global, names: &Names, ids: &[u16]) -> Result<Vec<u8>, No
     Ok(text)
 }
 
-/// Names, one a line.
+/// Returns names, one per line.
 pub fn name_lines(alloc: Global, names: &[&Name]) -> Result<Vec<u8>, NoMem>
     ensures { IfOk result (λ text. text.items ≡ name_lines (map (λ name. name.now) names.now)) }
 {

@@ -6,7 +6,7 @@ use rc_names::Names;
 use rc_select::{NoMem, Plan};
 use std::alloc::Global;
 
-/// The lines of a plan, those of them that have a name.
+/// Returns the lines of a plan that have at least one name.
 pub fn plan_text(alloc: Global, names: &Names, plan: &Plan) -> Result<Vec<u8>, NoMem>
     requires { length plan.now.opening ≡ length names.now }
     ensures { IfOk result (λ text. IsPlanText names.now plan.now text.items) }

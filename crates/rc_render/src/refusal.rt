@@ -12,14 +12,14 @@ use rc_session::{Refusal, Step};
 use rc_set::NoMem;
 use std::alloc::Global;
 
-/// The answer to a command that is refused, by its words.
+/// Returns the answer to a refused command, by its words.
 pub fn refusal_text(alloc: Global, words: &[String], refusal: Refusal) -> Result<Vec<u8>, NoMem>
     ensures { IfOk result (λ text. text.items ≡ refusal_text (map string_bytes words.now) refusal) }
 {
     refused(alloc, word_at(words, place_of(refusal)), refusal)
 }
 
-/// The answer to a step that is refused.
+/// Returns the answer to a refused step.
 pub fn step_refusal_text(alloc: Global, step: &Step, refusal: Refusal) -> Result<Vec<u8>, NoMem>
     ensures { IfOk result (λ text. text.items
         ≡ refusal_text (words_of (command_of step.now)) refusal) }
@@ -32,7 +32,7 @@ pub fn step_refusal_text(alloc: Global, step: &Step, refusal: Refusal) -> Result
     }
 }
 
-/// The answer to a definition that is refused. Its name is its first word.
+/// Returns the answer to a refused definition. Its name is its first word.
 pub fn add_refusal_text(
     alloc: Global,
     name: &Name,
@@ -49,7 +49,7 @@ pub fn add_refusal_text(
     refused(alloc, word, refusal)
 }
 
-/// The line of a refusal, with the word that it speaks of.
+/// Returns the line of a refusal, with the word that it is about.
 fn refused(alloc: Global, word: &[u8], refusal: Refusal) -> Result<Vec<u8>, NoMem>
     ensures { IfOk result (λ text. text.items
         ≡ line (codes "refused " ++ refusal_words word.now refusal)) }
@@ -61,7 +61,7 @@ fn refused(alloc: Global, word: &[u8], refusal: Refusal) -> Result<Vec<u8>, NoMe
     Ok(text)
 }
 
-/// A refusal by its name, and the word or the number that it tells.
+/// Returns the name of a refusal, with the word or the number that it reports.
 fn words(alloc: Global, word: &[u8], refusal: Refusal) -> Result<Vec<u8>, NoMem>
     ensures { IfOk result (λ text. text.items ≡ refusal_words word.now refusal) }
 {
@@ -90,7 +90,7 @@ fn joined(alloc: Global, front: &[u8], word: &[u8]) -> Result<Vec<u8>, NoMem>
     Ok(text)
 }
 
-/// The place of the word that a refusal speaks of.
+/// Returns the place of the word that a refusal is about.
 fn place_of(refusal: Refusal) -> usize
     ensures { result ≡ place_of refusal }
 {
@@ -100,7 +100,7 @@ fn place_of(refusal: Refusal) -> usize
     }
 }
 
-/// The word at a place. After the last one there is none.
+/// Returns the word at a place, or an empty word after the last one.
 fn word_at(words: &[String], place: usize) -> &[u8]
     ensures { result.now ≡ slice_index_or (map string_bytes words.now) place [] }
 {
@@ -110,7 +110,7 @@ fn word_at(words: &[String], place: usize) -> &[u8]
     }
 }
 
-/// The refusal of an unknown name in words, with the name.
+/// Returns the refusal of an unknown name in words, with the name.
 pub fn unknown_word(alloc: Global, name: &[u8]) -> Result<Vec<u8>, NoMem>
     ensures { IfOk result (λ text. text.items ≡ unknown_word name.now) }
 {

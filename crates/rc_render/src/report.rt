@@ -8,7 +8,7 @@ use rc_session::Report;
 use rc_set::NoMem;
 use std::alloc::Global;
 
-/// The answer to a command that is done.
+/// Returns the answer to a command that was carried out.
 pub fn report_text(alloc: Global, names: &Names, report: &Report) -> Result<Vec<u8>, NoMem>
     ensures { IfOk result (λ text. text.items ≡ report_text names.now (told_of report.now)) }
 {

@@ -8,7 +8,7 @@ use rc_names::{Name, Names};
 use rc_set::{NoMem, Set};
 use std::alloc::Global;
 
-/// The line of what is live.
+/// Returns the line of what is live.
 pub fn live_text(alloc: Global, names: &Names, live: &Set) -> Result<Vec<u8>, NoMem>
     ensures { IfOk result (λ text. text.items ≡ live_text names.now live.now) }
 {
@@ -17,7 +17,7 @@ pub fn live_text(alloc: Global, names: &Names, live: &Set) -> Result<Vec<u8>, No
     Ok(text)
 }
 
-/// The lines of bundles, in byte order.
+/// Returns the lines of bundles, in byte order.
 pub fn bundles_text(alloc: Global, names: &Names, table: &Table) -> Result<Vec<u8>, NoMem>
     ensures { IfOk result (λ text. text.items ≡ bundles_text names.now table.now) }
 {

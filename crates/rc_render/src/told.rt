@@ -6,7 +6,7 @@ ghost use Rattle.rc_render.specs.Names.{ok_line, set_line};
 use rc_names::Names;
 use rc_set::{NoMem, Set};
 
-/// The last line of what is done, after what it has to tell.
+/// Appends the last line of an answer, which says that the command was carried out.
 pub fn with_ok(mut text: Vec<u8>) -> Result<Vec<u8>, NoMem>
     ensures { IfOk result (λ whole. whole.items ≡ text.items ++ ok_line) }
 {
@@ -14,7 +14,7 @@ pub fn with_ok(mut text: Vec<u8>) -> Result<Vec<u8>, NoMem>
     Ok(text)
 }
 
-/// Appends the line of names to a text, or nothing where there is none.
+/// Appends a line of a word and names to a text, or nothing if there are no names.
 pub(crate) fn add_line(
     text: &mut Vec<u8>,
     word: &[u8],
@@ -35,7 +35,7 @@ pub(crate) fn add_line(
     Ok(())
 }
 
-/// Appends the line of the names of a set to a text.
+/// Appends a line of a word and the names of a set to a text.
 pub(crate) fn add_set_line(
     text: &mut Vec<u8>,
     word: &[u8],
@@ -62,7 +62,7 @@ fn add_word(text: &mut Vec<u8>, word: &[u8]) -> Result<(), NoMem>
     text.extend_from_slice(word)
 }
 
-/// The name of a service. What is no service has none.
+/// Returns the name of a service, or an empty name if there is no such service.
 fn name_or_none(names: &Names, id: u16) -> &[u8]
     ensures { result.now ≡ slice_index_or names.now id [] }
 {

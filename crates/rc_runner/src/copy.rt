@@ -6,7 +6,7 @@ use rc_db::{Db, NoMem, Service};
 use rc_names::Names;
 use std::alloc::Global;
 
-/// A copy of what is said of each service.
+/// Returns a copy of the description of each service.
 pub(crate) fn services_of(alloc: Global, db: &Db) -> Result<Vec<Service>, NoMem>
     ensures { IfOk result (λ made. made.items ≡ db.now.services) }
 {
@@ -17,7 +17,7 @@ pub(crate) fn services_of(alloc: Global, db: &Db) -> Result<Vec<Service>, NoMem>
     Ok(made)
 }
 
-/// A copy of the services' names.
+/// Returns a copy of the services' names.
 pub(crate) fn names_of(alloc: Global, db: &Db) -> Result<Vec<String>, NoMem>
     ensures { IfOk result (λ made. map string_bytes made.items ≡ db.now.names) }
 {
@@ -29,7 +29,7 @@ pub(crate) fn names_of(alloc: Global, db: &Db) -> Result<Vec<String>, NoMem>
     Ok(made)
 }
 
-/// A copy of a table of names.
+/// Returns a copy of a table of names.
 pub(crate) fn table_of(alloc: Global, names: &Names) -> Result<Names, NoMem>
     ensures { IfOk result (λ made. made ≡ names.now) }
 {
@@ -40,7 +40,7 @@ pub(crate) fn table_of(alloc: Global, names: &Names) -> Result<Names, NoMem>
     Ok(made)
 }
 
-/// A copy of words.
+/// Returns a copy of a list of words.
 pub(crate) fn words_of(alloc: Global, words: &[String]) -> Result<Vec<String>, NoMem>
     ensures { IfOk result (λ made. map string_bytes made.items ≡ map string_bytes words.now) }
 {

@@ -1,4 +1,4 @@
-//! Messages that tell what comes to services, while it does, as records of a log.
+//! Messages that report what happens to services, while it happens, as records of a log.
 
 use crate::progress::{Event, line_of};
 use crate::task::word_towards;
@@ -7,7 +7,7 @@ use rc_graph::Way;
 use rc_streams::messages::MESSAGE;
 use std::alloc::Global;
 
-/// Logs what came to a service at a moment, in milliseconds. If memory runs out for the text of
+/// Logs an event of a service at a moment, in milliseconds. If memory runs out for the text of
 /// `line_of`, the log formats the same text.
 pub(crate) fn tell<L: Log>(
     log: &L,

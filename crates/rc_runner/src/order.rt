@@ -20,13 +20,13 @@ pub(crate) struct Order<'a> {
 /// What is to be done for a transition.
 #[derive(Drop)]
 pub(crate) enum Move<'a> {
-    /// Nothing is started, and it ends so.
+    /// Nothing is started, and the transition has this outcome.
     Known(Outcome),
     Start(Order<'a>),
 }
 
 impl<'a> Order<'a> {
-    /// The command and the task.
+    /// Returns the command and the task.
     pub(crate) fn into_parts(self) -> (Command, Task<'a>)
         ensures command { result.0 ≡ self.entry.command }
         ensures task { result.1 ≡ self.entry.task }
@@ -36,7 +36,7 @@ impl<'a> Order<'a> {
     }
 }
 
-/// A call of the runner, with a text as its last argument.
+/// Creates a call of the runner, with a text as its last argument.
 pub(crate) fn call_to_run<'a>(
     alloc: Global,
     runner: &[String],
@@ -60,7 +60,7 @@ pub(crate) fn call_to_run<'a>(
     Ok(Move::Start(Order { command, task }))
 }
 
-/// A call of the controller, with the way and the name as its last two arguments.
+/// Creates a call of the controller, with the way and the name as its last two arguments.
 pub(crate) fn call_to_move<'a>(
     alloc: Global,
     controller: &[String],

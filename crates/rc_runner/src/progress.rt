@@ -1,4 +1,4 @@
-//! What comes to services, and the text of the message that tells it.
+//! Events of services, and the text of the message that reports one.
 
 ghost use Rattle.std.specs.Prelude.{◌≡◌, IfOk, string_bytes};
 ghost use Rattle.rc_runner.specs.Progress.{event_text, gap_text, level_of, line_text, moment_text};
@@ -11,7 +11,7 @@ use rc_graph::Way;
 use std::alloc::{AllocError, Global};
 use std::fmt;
 
-/// What comes to a service on its way.
+/// An event of a service on its way.
 #[derive(Clone, Copy)]
 pub(crate) enum Event {
     /// A program is started.
@@ -20,7 +20,7 @@ pub(crate) enum Event {
 }
 
 impl Event {
-    /// A transition that did not succeed is a warning.
+    /// Returns the level of the event's message. A transition that did not succeed is a warning.
     pub(crate) fn level(&self) -> Level
         ensures { result ≡ level_of self.now }
     {
@@ -43,7 +43,7 @@ impl fmt::Display for Event {
     }
 }
 
-/// The message that tells what came to a service at a moment, in milliseconds.
+/// Returns the message that reports an event of a service at a moment, in milliseconds.
 pub(crate) fn line_of(
     alloc: Global,
     moment: u64,
@@ -66,7 +66,7 @@ pub(crate) fn line_of(
     Ok(line)
 }
 
-/// How a message begins: with a moment in milliseconds, told in seconds.
+/// Returns the beginning of a message: a moment in milliseconds, written in seconds.
 fn moment_of(alloc: Global, moment: u64) -> Result<String, AllocError>
     ensures { IfOk result (λ text. string_bytes text ≡ moment_text moment) }
 {
@@ -81,7 +81,7 @@ fn moment_of(alloc: Global, moment: u64) -> Result<String, AllocError>
     Ok(text)
 }
 
-/// What comes to a service, in words.
+/// Returns an event of a service in words.
 fn words_of(alloc: Global, event: Event) -> Result<String, AllocError>
     ensures { IfOk result (λ words. string_bytes words ≡ event_text event) }
 {
@@ -94,7 +94,7 @@ fn words_of(alloc: Global, event: Event) -> Result<String, AllocError>
     }
 }
 
-/// The blanks before so many seconds, which take four places at least.
+/// Returns the blanks before so many seconds, which take at least four places.
 fn gap_before(seconds: u64) -> &'static str
     ensures { result.now ≡ gap_text seconds }
 {
@@ -110,7 +110,7 @@ fn gap_before(seconds: u64) -> &'static str
     ""
 }
 
-/// The zeros before so many milliseconds, which take three places at least.
+/// Returns the zeros before so many milliseconds, which take at least three places.
 fn zeros_before(rest: u64) -> &'static str
     ensures { result.now ≡ zeros_text rest }
 {

@@ -23,7 +23,7 @@ pub(crate) struct RunLog<'a> {
 }
 
 impl<'a> RunLog<'a> {
-    /// Logs in this file the runs of a database.
+    /// Creates the log of the runs of a database in a file.
     pub(crate) fn new(alloc: Global, file: &'a RunFile, db: &Db) -> Result<RunLog<'a>, NoMem>
         ensures file { IfOk result (λ run_log. run_log.file.now ≡ file.now) }
         ensures names { IfOk result (λ run_log. run_log.names ≡ db.now.names) }
@@ -32,8 +32,9 @@ impl<'a> RunLog<'a> {
         Ok(RunLog { alloc, file, names })
     }
 
-    /// Begins the log of a command from where a session stands, with room for all of its lines. A
-    /// change that only lowers goes on without that room. An edit has no run, and no log.
+    /// Begins the log of a command with the text of the session before it, and reserves room for
+    /// all of the command's lines. A change that only lowers continues without that room. An edit
+    /// has no run, and no log.
     pub(crate) fn begin(&self, session: &Session, command: &Command)
         requires { session.now.begun ≡ false }
     {
@@ -61,7 +62,7 @@ impl<'a> RunLog<'a> {
     }
 }
 
-/// The room for the run of a command on services of these names.
+/// Returns the room for the run of a command on services with the given names.
 fn room_for(command: &Command, names: &Names) -> Room {
     let room = room_of(names);
     if only_lowers(command) {
@@ -71,7 +72,8 @@ fn room_for(command: &Command, names: &Names) -> Room {
     }
 }
 
-/// Whether a command brings no service up: a machine must go down on a full disk, too.
+/// Returns true if a command is a change that brings no service up: a machine must go down on a
+/// full disk, too.
 fn only_lowers(command: &Command) -> bool {
     match command {
         Command::Change(request) => matches!(request.mode, Mode::Down | Mode::DownAll),
@@ -79,7 +81,7 @@ fn only_lowers(command: &Command) -> bool {
     }
 }
 
-/// The room for the runs of services of these names.
+/// Returns the room for the runs of services with the given names.
 fn room_of(names: &Names) -> Room {
     let mut length: u64 = 0;
     for service in 0..names.len() {
@@ -88,7 +90,8 @@ fn room_of(names: &Names) -> Room {
     Room::of(names.len() as u64, length)
 }
 
-/// The text of a session, and the line of a command. None: the command has no run.
+/// Returns the text of a session followed by the line of a command. Returns none if the command has
+/// no run.
 fn head_of(alloc: Global, session: &Session, command: &Command) -> Result<Option<Vec<u8>>, NoMem>
     requires { session.now.begun ≡ false }
 {
@@ -108,7 +111,7 @@ fn head_of(alloc: Global, session: &Session, command: &Command) -> Result<Option
     }
 }
 
-/// A text, and bytes behind it.
+/// Appends bytes to a text, and returns it.
 fn joined(text: Vec<u8>, bytes: &[u8]) -> Result<Vec<u8>, NoMem> {
     let mut joined = text;
     joined.extend_from_slice(bytes)?;

@@ -31,13 +31,13 @@ use std::marker::Model;
 use std::process::Processes;
 use std::time::{Clock, Instant};
 
-/// A gate that starts a program for each transition: a runner is handed a oneshot's text, and a
-/// controller moves a longrun. What the programs answer is nobody's to know.
+/// A gate that starts a program for each transition: a runner gets a oneshot's text, and a
+/// controller moves a longrun. Nothing is known of what the programs answer.
 ///
-/// A program is started with nothing to read, and is told in its environment what it is to do. What
-/// it writes is thrown away, or goes where this program's errors go. It is waited for, and what it
-/// leaves behind is not. A limit is rounded up to whole seconds; where it is reached the program is
-/// asked to end, by TERM, and is made to, by KILL, where it has not after five seconds more.
+/// A program is started with nothing to read, and its environment says what it is to do. Its output
+/// is discarded, or goes where this program's errors go. The gate waits for the program, but not
+/// for what it leaves behind. A limit is rounded up to whole seconds. When it is reached, the
+/// program gets TERM, and KILL if it has not ended five seconds later.
 #[derive(Drop)]
 pub struct ShellGate<'a, R, L> {
     rt: &'a R,
@@ -52,7 +52,7 @@ pub struct ShellGate<'a, R, L> {
     limit: u32,
     /// The log that gets a record for each program that starts, or can't be started.
     log: &'a L,
-    /// Where what they write goes, if anywhere.
+    /// Where the output of the programs goes, if anywhere.
     errors: Option<Stderr>,
     /// Where its runs are logged, if anywhere.
     run_log: Option<RunLog<'a>>,
@@ -81,9 +81,9 @@ impl<'a, R, L> Model for ShellGate<'a, R, L> {
 }
 
 impl<'a, R: Processes + Clock> ShellGate<'a, R, NoLog> {
-    /// A gate for the services of a database, with the words of a runner and of a controller.
-    /// Without a word there is no such program. A service without a limit of its own has none, and
-    /// nothing is reported.
+    /// Creates a gate for the services of a database, with the words of a runner and of a
+    /// controller. Without a word there is no such program. A service without a limit of its own
+    /// has none, and nothing is reported.
     pub fn new(
         rt: &'a R,
         alloc: Global,
@@ -116,7 +116,7 @@ impl<'a, R: Processes + Clock> ShellGate<'a, R, NoLog> {
 }
 
 impl<'a, R: Processes + Clock, L: Log> ShellGate<'a, R, L> {
-    /// The same gate with this limit, in milliseconds, for services without one of their own. 0 is
+    /// Returns this gate with a limit, in milliseconds, for services without one of their own. 0 is
     /// no limit.
     pub fn with_limit(mut self, limit: u32) -> ShellGate<'a, R, L>
         ensures { result ≡ record self.entry {
@@ -127,7 +127,8 @@ impl<'a, R: Processes + Clock, L: Log> ShellGate<'a, R, L> {
         self
     }
 
-    /// The same gate, which logs each program that it starts, and each that can't be started.
+    /// Returns this gate with a log, which records each program that the gate starts, and each that
+    /// cannot be started.
     pub fn with_log<M: Log>(self, log: &'a M) -> ShellGate<'a, R, M>
         ensures { result ≡ self.entry }
     {
@@ -161,7 +162,7 @@ impl<'a, R: Processes + Clock, L: Log> ShellGate<'a, R, L> {
         }
     }
 
-    /// The same gate, which lets each program write there.
+    /// Returns this gate with a stream to which each program writes.
     pub fn with_errors(mut self, errors: Stderr) -> ShellGate<'a, R, L>
         ensures { result ≡ record {
           scripts = self.entry.scripts;
@@ -174,8 +175,9 @@ impl<'a, R: Processes + Clock, L: Log> ShellGate<'a, R, L> {
         self
     }
 
-    /// The same gate, which logs in this file each event of a run of the database: a take before
-    /// its program is started, and an end before it counts. What can't be logged is not started.
+    /// Returns this gate with a run log in the given file. The gate logs each event of a run of the
+    /// database: a take before its program is started, and an end before it counts. A program whose
+    /// take cannot be logged is not started.
     pub fn with_run_log(mut self, file: &'a RunFile, db: &Db) -> Result<ShellGate<'a, R, L>, NoMem>
         ensures { IfOk result (λ gate. gate ≡ record {
           scripts = self.entry.scripts;
@@ -196,8 +198,8 @@ impl<'a, R: Processes + Clock, L: Log> ShellGate<'a, R, L> {
         }
     }
 
-    /// The same gate, whose runs are called off by this file: its clock stands at the last moment
-    /// from then on.
+    /// Returns this gate with a file that calls its runs off. Once a run is called off, the gate's
+    /// clock stands at the last moment.
     pub fn with_stop_file(mut self, file: &'a StopFile) -> ShellGate<'a, R, L>
         ensures { result ≡ record {
           scripts = self.entry.scripts;
@@ -210,7 +212,7 @@ impl<'a, R: Processes + Clock, L: Log> ShellGate<'a, R, L> {
         self
     }
 
-    /// Logs an event where runs are logged. False: it could not be logged.
+    /// Logs an event if runs are logged. Returns false if it could not be logged.
     fn log_event(&self, event: RunEvent) -> bool {
         match &self.run_log {
             Some(run_log) => run_log.log(event),
@@ -218,7 +220,7 @@ impl<'a, R: Processes + Clock, L: Log> ShellGate<'a, R, L> {
         }
     }
 
-    /// Makes the transition of a service. What was not logged is not started.
+    /// Makes the transition of a service. Starts nothing if the take was not logged.
     fn make(&self, service: u16, way: Way, is_logged: bool) -> Outcome
         ensures { MayAnswer self.now.scripts service way result }
     {
@@ -229,7 +231,7 @@ impl<'a, R: Processes + Clock, L: Log> ShellGate<'a, R, L> {
         }
     }
 
-    /// What is to be done for the transition of a service.
+    /// Returns the move for the transition of a service.
     fn move_for(&self, service: u16, way: Way) -> Result<Move<'_>, AllocError>
         ensures exact { IfOk result (IsMoveFor self.now.scripts service way) }
         ensures unmade { OnErr result (MayAnswer self.now.scripts service way Outcome.NotStarted) }
@@ -240,7 +242,7 @@ impl<'a, R: Processes + Clock, L: Log> ShellGate<'a, R, L> {
         }
     }
 
-    /// What is to be done for the transition of a service of which this is said.
+    /// Returns the move for the transition of a service with the given facts.
     fn move_of(&self, service: u16, facts: &Service, way: Way) -> Result<Move<'_>, AllocError>
         ensures exact { IfOk result (IsMoveOf self.now.scripts
             (slice_get self.now.scripts.names service) facts.now.kind facts.now way) }
@@ -255,7 +257,7 @@ impl<'a, R: Processes + Clock, L: Log> ShellGate<'a, R, L> {
         }
     }
 
-    /// The runner is to run a text.
+    /// Returns the move by which the runner runs a text.
     fn run_text(
         &self,
         service: u16,
@@ -283,7 +285,7 @@ impl<'a, R: Processes + Clock, L: Log> ShellGate<'a, R, L> {
         call_to_run(self.alloc, &self.runner, text.as_str(), task)
     }
 
-    /// The controller is to move a longrun.
+    /// Returns the move by which the controller moves a longrun.
     fn control(&self, service: u16, way: Way, limit: u32) -> Result<Move<'_>, AllocError>
         ensures exact { IfOk result (IsControl self.now.scripts.controller
             (slice_get self.now.scripts.names service) way limit) }
@@ -301,7 +303,8 @@ impl<'a, R: Processes + Clock, L: Log> ShellGate<'a, R, L> {
         call_to_move(self.alloc, &self.controller, task)
     }
 
-    /// Tells that a program is started, starts it, and waits for it under the limit of its task.
+    /// Reports that a program is started, starts it, and waits for it under the limit of its task.
+    /// Does nothing of this if the take was not logged.
     fn carry_out(&self, order: Order<'_>, is_logged: bool) -> Outcome
         ensures { MayEnd (seconds_of order.entry.task.limit) result }
     {
@@ -327,7 +330,7 @@ impl<'a, R: Processes + Clock, L: Log> ShellGate<'a, R, L> {
         warn!(self.log; target: MESSAGE, "{name}: {program} can't be started: {error}");
     }
 
-    /// Tells that a program is started, before it can write anything.
+    /// Reports that a program is started, before it can write anything.
     fn tell_start(&self, task: &Task<'_>) {
         if log_enabled!(self.log; target: MESSAGE, Level::Info) {
             let moment = millis_since(self.rt, self.start).unwrap_or(0);
@@ -355,8 +358,8 @@ impl<'a, R: Processes + Clock + Sync, L: Log + Sync> Gate for ShellGate<'a, R, L
         outcome
     }
 
-    /// Milliseconds since the gate was made, 0 where the clock can't be read; and where the run is
-    /// called off the last moment that there is, at which each limit is over.
+    /// Returns the milliseconds since the gate was made, or 0 if the clock cannot be read. If the
+    /// run is called off, returns the last moment that there is, at which each limit is over.
     fn now(&self) -> u64 {
         if let Some(file) = self.stop_file {
             if file.is_called_off() {
@@ -385,7 +388,7 @@ impl<'a, R: Processes + Clock + Sync, L: Log + Sync> Gate for ShellGate<'a, R, L
     }
 }
 
-/// How long a service may take on its way, in milliseconds.
+/// Returns the limit of a service on its way, in milliseconds.
 fn limit_towards(service: &Service, way: Way) -> u32
     ensures { result ≡ limit_of service.now way }
 {
@@ -395,7 +398,7 @@ fn limit_towards(service: &Service, way: Way) -> u32
     }
 }
 
-/// The text that is run for a service on its way.
+/// Returns the text that is run for a service on its way.
 fn text_towards(service: &Service, way: Way) -> &Option<String>
     ensures { option_map string_bytes result.now ≡ text_of service.now way }
 {
@@ -405,14 +408,14 @@ fn text_towards(service: &Service, way: Way) -> &Option<String>
     }
 }
 
-/// A service's own limit, or where it has none the usual one.
+/// Returns a service's own limit, or the usual one if it has none.
 fn limit_unless(own: u32, usual: u32) -> u32
     ensures { result ≡ limit_or own usual }
 {
     if own == 0 { usual } else { own }
 }
 
-/// Milliseconds in whole seconds, rounded up.
+/// Converts milliseconds to whole seconds, rounded up.
 fn seconds(limit: u32) -> u64
     ensures { result ≡ seconds_of limit }
 {

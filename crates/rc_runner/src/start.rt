@@ -19,7 +19,7 @@ use std::{io, thread};
 const GRACE: u64 = 5000;
 
 /// The texts by which a shell asks the session of a program to end, ends it, and ends what is left
-/// of it five seconds after the program. Their name is the number of the program.
+/// of it five seconds after the program. `$0` is the number of the program.
 const ASK: &str = "kill -TERM \"-$0\"";
 
 const END: &str = "kill -KILL \"-$0\"";
@@ -27,7 +27,7 @@ const END: &str = "kill -KILL \"-$0\"";
 const END_REST: &str =
     "n=0; while [ $n -lt 50 ] && kill -0 \"-$0\"; do sleep 0.1; n=$((n+1)); done; kill -KILL \"-$0\"";
 
-/// How long the first pause of who waits for a program is, and the longest, in microseconds.
+/// The first and the longest pause while a program is waited for, in microseconds.
 const FIRST_PAUSE: u64 = 50;
 
 const LONGEST_PAUSE: u64 = 10_000;
@@ -40,8 +40,8 @@ enum Waited {
     Lost,
 }
 
-/// The command of these words under a limit, 0 for none. Under a limit it leads a session of its
-/// own, so that all that it starts can be ended. None: there is no word.
+/// Creates the command of the given words under a limit, 0 for none. Under a limit it leads a
+/// session of its own, so that all that it starts can be ended. Returns none if there is no word.
 pub(crate) fn command_under(
     alloc: Global,
     words: &[String],
@@ -59,7 +59,7 @@ pub(crate) fn command_under(
     Ok(Some(command))
 }
 
-/// The command of these words. None: there is no word.
+/// Creates the command of the given words. Returns none if there is no word.
 fn command_of(alloc: Global, words: &[String]) -> Result<Option<Command>, AllocError>
     ensures some { IfOk result (λ made. IfSome made
         (IsCommandOf 0 (map string_bytes words.now))) }
@@ -96,8 +96,8 @@ pub(crate) fn add_two(command: &mut Command, one: &str, two: &str) -> Result<(),
     Ok(())
 }
 
-/// Starts a program. It reads nothing, and what it writes goes to `errors`, if that is open: with a
-/// pipe a child that it leaves behind would have to be waited for.
+/// Starts a program. It reads nothing, and its output goes to `errors`, if that is open. With a
+/// pipe, a child that it leaves behind would have to be waited for.
 pub(crate) fn start<R: Processes>(
     rt: &R,
     command: &mut Command,
@@ -110,7 +110,8 @@ pub(crate) fn start<R: Processes>(
     command.spawn(rt)
 }
 
-/// Where what a program writes goes.
+/// Returns the stream to which a program writes: a copy of `errors`, or the null device if there is
+/// no such copy.
 fn stream_to(errors: Option<Stderr>) -> Stdio {
     let Some(errors) = errors else {
         return Stdio::null();
@@ -121,7 +122,8 @@ fn stream_to(errors: Option<Stderr>) -> Stdio {
     }
 }
 
-/// Waits for a program under a limit in seconds, 0 for none, and says how it ended.
+/// Waits for a program under a limit in seconds, 0 for none, and returns how it ended. Ends a
+/// program that exceeds the limit.
 pub(crate) fn end_of<R: Processes + Clock, P: OpenProcess + Drop>(
     rt: &R,
     alloc: Global,
@@ -147,7 +149,7 @@ pub(crate) fn end_of<R: Processes + Clock, P: OpenProcess + Drop>(
     }
 }
 
-/// How a status counts.
+/// Returns the outcome for an exit status under a limit in seconds, 0 for none.
 fn told(status: ExitStatus, seconds: u64) -> Outcome
     ensures counts { CountsAs seconds status result }
     ensures may { MayEnd seconds result }
@@ -161,7 +163,7 @@ fn told(status: ExitStatus, seconds: u64) -> Outcome
     }
 }
 
-/// How an exit code counts.
+/// Returns the outcome for an exit code under a limit in seconds, 0 for none.
 fn counted(code: u8, seconds: u64) -> Outcome
     ensures exact { result ≡ outcome_of seconds code }
     ensures may { MayEnd seconds result }
@@ -181,8 +183,8 @@ fn counted(code: u8, seconds: u64) -> Outcome
     Outcome::Failed(code)
 }
 
-/// Waits for a program, at most so many milliseconds. Where the clock can't be read the pauses are
-/// counted.
+/// Waits for a program, at most so many milliseconds. If the clock cannot be read, counts the
+/// pauses.
 fn wait_for<R: Clock, P: OpenProcess + Drop>(rt: &R, child: &mut Child<P>, limit: u64) -> Waited
     ensures { IsWaited (child_status child.new) result }
 {
@@ -205,27 +207,29 @@ fn wait_for<R: Clock, P: OpenProcess + Drop>(rt: &R, child: &mut Child<P>, limit
     Waited::Running
 }
 
-/// Whether so many milliseconds are over, by the clock, or by the pauses where it can't be read.
+/// Returns true if so many milliseconds are over, by the clock, or by the pauses if it cannot be
+/// read.
 fn is_over(limit: u64, past: Option<u64>, paused: u64) -> bool
     ensures { IsTrue result ↔ limit ≤ unwrap_or past paused }
 {
     limit <= past.unwrap_or(paused)
 }
 
-/// The pause after one, in microseconds: twice as long, so that a program that ends soon is found
-/// soon, and one that does not costs little.
+/// Returns the pause after one, in microseconds. It is twice as long, up to `LONGEST_PAUSE`, so
+/// that a program that ends soon is found soon, and one that does not costs little.
 fn longer(pause: u64) -> u64 {
     pause.saturating_mul(2).min(LONGEST_PAUSE)
 }
 
-/// The milliseconds since a moment. None: the clock can't be read, or could not.
+/// Returns the milliseconds since a moment. Returns none if the clock cannot be read, or could not
+/// be read then.
 pub(crate) fn millis_since<R: Clock>(rt: &R, start: Option<Instant>) -> Option<u64> {
     let past = start?.elapsed(rt).ok()?;
     Some(u64::try_from(past.as_millis()).unwrap_or(u64::MAX))
 }
 
-/// Ends a program and all of its session: they are asked to end, and made to where they do not in
-/// time or can't be asked.
+/// Ends a program and all of its session. Asks them to end, and kills them if they do not end in
+/// time or cannot be asked.
 fn end<R: Processes + Clock, P: OpenProcess + Drop>(rt: &R, alloc: Global, child: &mut Child<P>) {
     let leader = child.id();
     if signal(rt, alloc, ASK, leader).is_ok() {
@@ -243,8 +247,9 @@ fn end<R: Processes + Clock, P: OpenProcess + Drop>(rt: &R, alloc: Global, child
     }
 }
 
-/// Has a shell send a signal to the session of a program, by this text. While the program is not
-/// waited for, or something of its session goes on, its number is no other's.
+/// Sends a signal to the session of a program through a shell that runs the given text. While the
+/// program is not waited for, or a process of its session still runs, no other process has its
+/// number.
 fn signal<R: Processes>(rt: &R, alloc: Global, text: &str, leader: u32) -> io::Result<ExitStatus> {
     let mut command = Command::new(alloc, "/bin/sh")?;
     let Ok(()) = add_text(alloc, &mut command, text, leader) else {
@@ -256,7 +261,7 @@ fn signal<R: Processes>(rt: &R, alloc: Global, text: &str, leader: u32) -> io::R
     ended
 }
 
-/// Appends the words by which a shell runs a text, whose name is this number.
+/// Appends the arguments by which a shell runs a text with the given number as `$0`.
 fn add_text(
     alloc: Global,
     command: &mut Command,
@@ -269,7 +274,7 @@ fn add_text(
     Ok(())
 }
 
-/// Runs a program that reads nothing and whose writing is thrown away.
+/// Runs a program that reads nothing and whose output is discarded, and returns its exit status.
 fn status_of<R: Processes>(rt: &R, command: &mut Command) -> io::Result<ExitStatus> {
     command
         .stdin(Stdio::null())

@@ -16,7 +16,7 @@ pub(crate) struct Task<'a> {
     pub(crate) limit: u32,
 }
 
-/// The word for the way that a service is to go.
+/// Returns the word for the way that a service is to go.
 pub(crate) fn word_towards(way: Way) -> &'static str
     ensures { result.now ≡ word_of way }
 {

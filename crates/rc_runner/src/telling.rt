@@ -1,4 +1,4 @@
-//! A gate that tells which transitions do not succeed.
+//! A gate that logs how transitions end.
 
 ghost use Rattle.std.specs.Prelude.{◌≡◌, IfOk};
 
@@ -16,13 +16,13 @@ use std::alloc::Global;
 use std::marker::Model;
 use std::sync::atomic::{AtomicU64, Ordering};
 
-/// A gate that answers as another does, and tells a log of each outcome: the moment by the clock of
-/// that gate, the way, the name of the service, and how its transition ended.
+/// A gate that answers as another does, and logs each outcome: the moment by the clock of that
+/// gate, the way, the name of the service, and how its transition ended.
 #[derive(Drop)]
 pub struct Telling<'a, L, G> {
     log: &'a L,
     alloc: Global,
-    /// The names of the services whose outcomes are told: all, or none.
+    /// The names of the services whose outcomes are logged: all, or none.
     names: Vec<String>,
     inner: G,
     /// The last moment by that clock before the run was called off.
@@ -36,7 +36,7 @@ impl<'a, L, G> Model for Telling<'a, L, G> {
 }
 
 impl<'a, L: Log, G: Drop> Telling<'a, L, G> {
-    /// A gate over this one, which keeps no names where the log takes no outcomes.
+    /// Creates a gate over the given one. Keeps no names if the log takes no outcomes.
     pub fn new(log: &'a L, alloc: Global, db: &Db, inner: G) -> Result<Telling<'a, L, G>, NoMem>
         ensures { IfOk result (λ telling. telling ≡ inner) }
     {
@@ -65,7 +65,7 @@ impl<'a, L: Log, G: Drop> Telling<'a, L, G> {
         }
     }
 
-    /// Tells how the transition of a service ended at a moment.
+    /// Logs how the transition of a service ended at a moment.
     #[inline(never)]
     fn tell_end(&self, moment: u64, service: u16, way: Way, outcome: Outcome) {
         if let Some(name) = self.names.get(service as usize) {
@@ -105,8 +105,8 @@ impl<'a, L: Log + Sync, G: Gate + Drop> Gate for Telling<'a, L, G> {
     }
 }
 
-/// The moment that is reported. A clock that is called off stands at the last moment that there is;
-/// then it is the one before.
+/// Returns the moment to report. If the run is called off, the clock stands at the last moment that
+/// there is. Then returns the last moment before that.
 fn shown_moment(last: &AtomicU64, now: u64) -> u64 {
     if now == u64::MAX {
         return last.load(Ordering::SeqCst);

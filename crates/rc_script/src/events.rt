@@ -7,7 +7,7 @@ use crate::numbers::{byte_in, moment_in, status_in};
 use rc_core::{Event, Outcome};
 use rc_names::Names;
 
-/// The event that words give, of the services of these names.
+/// Parses an event from the words of a line, over the services of the given names.
 pub(crate) fn event_in(names: &Names, words: &[&str]) -> Option<Event>
     ensures { result ≡ event_in names.now (map (λ word. word.now) words.now) }
 {
@@ -17,7 +17,7 @@ pub(crate) fn event_in(names: &Names, words: &[&str]) -> Option<Event>
     }
 }
 
-/// The event that a verb gives with the words after it.
+/// Parses an event from its verb and the words after it.
 fn event_by(names: &Names, verb: &str, worker: &str, object: &str, words: &[&str]) -> Option<Event>
     ensures { result ≡ event_by names.now verb.now worker.now object.now
         (map (λ word. word.now) words.now) }
@@ -30,7 +30,7 @@ fn event_by(names: &Names, verb: &str, worker: &str, object: &str, words: &[&str
     }
 }
 
-/// A worker takes a service.
+/// Parses the event of a worker that takes a service.
 fn take_in(names: &Names, worker: &str, name: &str, words: &[&str]) -> Option<Event>
     ensures { result ≡ take_in names.now worker.now name.now (map (λ word. word.now) words.now) }
 {
@@ -42,7 +42,7 @@ fn take_in(names: &Names, worker: &str, name: &str, words: &[&str]) -> Option<Ev
     Some(Event::Take(worker, service))
 }
 
-/// A worker has done with a service.
+/// Parses the event of a worker that is done with a service.
 fn done_in(names: &Names, worker: &str, name: &str, words: &[&str]) -> Option<Event>
     ensures { result ≡ done_in names.now worker.now name.now (map (λ word. word.now) words.now) }
 {
@@ -52,7 +52,7 @@ fn done_in(names: &Names, worker: &str, name: &str, words: &[&str]) -> Option<Ev
     Some(Event::Done(worker, service, outcome))
 }
 
-/// A worker stops the run at a moment.
+/// Parses the event of a worker that stops the run at a moment.
 fn stop_in(worker: &str, moment: &str, words: &[&str]) -> Option<Event>
     ensures { result ≡ stop_in worker.now moment.now (map (λ word. word.now) words.now) }
 {
@@ -64,7 +64,7 @@ fn stop_in(worker: &str, moment: &str, words: &[&str]) -> Option<Event>
     Some(Event::Stop(worker, moment))
 }
 
-/// How a transition ended, by the words that say so.
+/// Parses the outcome of a transition from the words that state it.
 fn outcome_in(words: &[&str]) -> Option<Outcome>
     ensures { result ≡ outcome_in (map (λ word. word.now) words.now) }
 {
@@ -75,7 +75,7 @@ fn outcome_in(words: &[&str]) -> Option<Outcome>
     }
 }
 
-/// How a transition ended, by the one word that says so.
+/// Parses the outcome of a transition from the one word that states it.
 fn plain_outcome(word: &str) -> Option<Outcome>
     ensures { result ≡ plain_outcome word.now }
 {
@@ -87,7 +87,7 @@ fn plain_outcome(word: &str) -> Option<Outcome>
     }
 }
 
-/// The id of a service by its name.
+/// Returns the id of the service with the given name.
 fn service_in(names: &Names, name: &str) -> Option<u16>
     ensures { result ≡ place_of names.now name.now }
 {

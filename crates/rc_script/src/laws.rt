@@ -12,7 +12,7 @@ pub fn lines_say_one_thing()
     ensures { (line : List ℕ) (a b : Saying) → Says line a → Says line b → a ≡ b }
 {}
 
-/// A script gives one list of commands, and is refused as out of memory alone.
+/// A script gives one list of commands. It can be refused only because memory ran out.
 pub fn scripts_give_one_list()
     ensures value { (names : List (List ℕ)) (text : List ℕ) (a b : List Command) →
         IsScript names text a → IsScript names text b → a ≡ b }

@@ -17,7 +17,7 @@ use std::alloc::{AllocError, Global};
 pub enum SessionLine {
     /// An empty line or a comment. It has no answer.
     Nothing,
-    /// A line that has no form.
+    /// A malformed line.
     Wrong,
     /// A command.
     Command(Command),
@@ -31,7 +31,7 @@ pub enum SessionLine {
     Journal,
 }
 
-/// What the bytes of a session line say. The newline at its end is none of them.
+/// Parses the bytes of a session line, which do not include the newline at its end.
 pub fn read_line(alloc: Global, line: &[u8]) -> Result<SessionLine, NoMem>
     ensures said { IfOk result (λ read. Says line.now (saying_of read)) }
 {
@@ -45,7 +45,7 @@ pub fn read_line(alloc: Global, line: &[u8]) -> Result<SessionLine, NoMem>
     }
 }
 
-/// What words say.
+/// Parses a session line from its words.
 fn sentence(alloc: Global, words: &[&str]) -> Result<SessionLine, NoMem>
     ensures { IfOk result (λ line. IsSaid (sentence (map (λ word. word.now) words.now))
         (saying_of line)) }
@@ -56,7 +56,7 @@ fn sentence(alloc: Global, words: &[&str]) -> Result<SessionLine, NoMem>
     }
 }
 
-/// What words say after choices.
+/// Parses a session line from its options and the words after them.
 fn behind(alloc: Global, choices: &[Choice], words: &[&str]) -> Result<SessionLine, NoMem>
     ensures { IfOk result (λ line. IsSaid (behind choices.now (map (λ word. word.now) words.now))
         (saying_of line)) }
@@ -70,7 +70,7 @@ fn behind(alloc: Global, choices: &[Choice], words: &[&str]) -> Result<SessionLi
     }
 }
 
-/// What a verb says with choices in front and words after.
+/// Parses a session line from its verb, the options in front of it and the words after it.
 fn said(alloc: Global, verb: Verb, choices: &[Choice], words: &[&str]) -> Result<SessionLine, NoMem>
     ensures { IfOk result (λ line. IsSaid (said verb choices.now (map (λ word. word.now) words.now))
         (saying_of line)) }
@@ -88,7 +88,7 @@ fn said(alloc: Global, verb: Verb, choices: &[Choice], words: &[&str]) -> Result
     }
 }
 
-/// A change of these names.
+/// Creates the line of a change of the given names.
 fn change(alloc: Global, choices: &[Choice], words: &[&str]) -> Result<SessionLine, NoMem>
     ensures { IfOk result (λ line. IsSaid
         (said Verb.Change choices.now (map (λ word. word.now) words.now)) (saying_of line)) }
@@ -99,7 +99,7 @@ fn change(alloc: Global, choices: &[Choice], words: &[&str]) -> Result<SessionLi
     }
 }
 
-/// The plan of a change of these names.
+/// Creates the line that asks for the plan of a change of the given names.
 fn dry(alloc: Global, choices: &[Choice], words: &[&str]) -> Result<SessionLine, NoMem>
     ensures { IfOk result (λ line. IsSaid
         (said Verb.Dry choices.now (map (λ word. word.now) words.now)) (saying_of line)) }
@@ -110,7 +110,7 @@ fn dry(alloc: Global, choices: &[Choice], words: &[&str]) -> Result<SessionLine,
     }
 }
 
-/// An undo, where nothing but a limit stands beside it.
+/// Creates the line of an undo. The line is wrong if anything but a limit stands beside the verb.
 fn undo(choices: &[Choice], words: &[&str]) -> SessionLine
     ensures { IsSaid (said Verb.Undo choices.now (map (λ word. word.now) words.now))
         (saying_of result) }
@@ -121,7 +121,7 @@ fn undo(choices: &[Choice], words: &[&str]) -> SessionLine
     }
 }
 
-/// A redo, where nothing but a limit stands beside it.
+/// Creates the line of a redo. The line is wrong if anything but a limit stands beside the verb.
 fn redo(choices: &[Choice], words: &[&str]) -> SessionLine
     ensures { IsSaid (said Verb.Redo choices.now (map (λ word. word.now) words.now))
         (saying_of result) }
@@ -132,7 +132,7 @@ fn redo(choices: &[Choice], words: &[&str]) -> SessionLine
     }
 }
 
-/// The limit in front of a word, where nothing else stands beside it.
+/// Returns the limit in front of a word, or `None` if anything else stands beside the word.
 fn limit_alone(choices: &[Choice], words: &[&str]) -> Option<u32>
     ensures { result ≡ limit_alone choices.now (map (λ word. word.now) words.now) }
 {
@@ -143,7 +143,8 @@ fn limit_alone(choices: &[Choice], words: &[&str]) -> Option<u32>
     }
 }
 
-/// A bundle with a name and contents, forced where `-f` stands in front of them.
+/// Creates the line that adds a bundle with a name and contents. The bundle is forced if `-f`
+/// stands in front of them.
 fn add(alloc: Global, choices: &[Choice], words: &[&str]) -> Result<SessionLine, NoMem>
     ensures { IfOk result (λ line. IsSaid
         (said Verb.Add choices.now (map (λ word. word.now) words.now)) (saying_of line)) }
@@ -158,7 +159,8 @@ fn add(alloc: Global, choices: &[Choice], words: &[&str]) -> Result<SessionLine,
     }
 }
 
-/// A bundle with this name, where it is one, and these contents.
+/// Creates the line that adds a bundle with the given contents. The line is wrong if the name is no
+/// name of a bundle.
 fn bundle(alloc: Global, name: &str, contents: &[&str], force: bool) -> Result<SessionLine, NoMem>
     ensures { IfOk result (λ line. IsSaid
         (addition_of force (name.now ∷ map (λ word. word.now) contents.now)) (saying_of line)) }
@@ -172,7 +174,8 @@ fn bundle(alloc: Global, name: &str, contents: &[&str], force: bool) -> Result<S
     Ok(SessionLine::Command(Command::Add(name, contents, force)))
 }
 
-/// Bundles that are to go, forced where `-f` stands in front of them.
+/// Creates the line that deletes bundles. The deletion is forced if `-f` stands in front of their
+/// names.
 fn delete(alloc: Global, choices: &[Choice], words: &[&str]) -> Result<SessionLine, NoMem>
     ensures { IfOk result (λ line. IsSaid
         (said Verb.Delete choices.now (map (λ word. word.now) words.now)) (saying_of line)) }
@@ -185,7 +188,7 @@ fn delete(alloc: Global, choices: &[Choice], words: &[&str]) -> Result<SessionLi
     Ok(SessionLine::Command(Command::Delete(names, is_forced(words))))
 }
 
-/// Whether `-f` stands in front of words.
+/// Returns true if `-f` stands in front of the words.
 fn is_forced(words: &[&str]) -> bool
     ensures { result ≡ is_forced (map (λ word. word.now) words.now) }
 {
@@ -195,7 +198,7 @@ fn is_forced(words: &[&str]) -> bool
     }
 }
 
-/// Words without the `-f` in front of them.
+/// Returns the words without the `-f` in front of them.
 fn unforced<'a, 'b>(words: &'b [&'a str]) -> &'b [&'a str]
     ensures { map (λ word. word.now) result.now
         ≡ unforced (map (λ word. word.now) words.entry.now) }
@@ -203,7 +206,7 @@ fn unforced<'a, 'b>(words: &'b [&'a str]) -> &'b [&'a str]
     if is_forced(words) { &words[1..] } else { words }
 }
 
-/// What a word that stands alone says.
+/// Returns the given line if its word stands alone, and a wrong line otherwise.
 fn alone(line: SessionLine, choices: &[Choice], words: &[&str]) -> SessionLine
     requires { HasName (saying_of line) }
     ensures { IsSaid (plain (alone (saying_of line) (map (λ word. word.now) words.now)) choices.now)

@@ -4,7 +4,7 @@ ghost use Rattle.rc_script.specs.Numbers.{is_plain, number_in, status_in};
 
 use crate::words::is_digits;
 
-/// The number of 8 bits that a word gives.
+/// Parses a number of 8 bits.
 pub(crate) fn byte_in(word: &str) -> Option<u8>
     ensures { result ≡ number_in 8 word.now }
 {
@@ -15,7 +15,7 @@ pub(crate) fn byte_in(word: &str) -> Option<u8>
     }
 }
 
-/// The number of 64 bits that a word gives.
+/// Parses a number of 64 bits.
 pub(crate) fn moment_in(word: &str) -> Option<u64>
     ensures { result ≡ number_in 64 word.now }
 {
@@ -26,14 +26,14 @@ pub(crate) fn moment_in(word: &str) -> Option<u64>
     }
 }
 
-/// The status that a word gives, which is not 0.
+/// Parses an exit status that is not 0.
 pub(crate) fn status_in(word: &str) -> Option<u8>
     ensures { result ≡ status_in word.now }
 {
     if word == "0" { None } else { byte_in(word) }
 }
 
-/// Whether a word is digits with no zero in front of others.
+/// Returns true if a word consists of digits, with no zero in front of others.
 fn is_plain(word: &str) -> bool
     ensures { result ≡ is_plain word.now }
 {

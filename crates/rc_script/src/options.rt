@@ -10,7 +10,8 @@ use rc_names::NoMem;
 use rc_select::{Choice, Chosen, Request};
 use std::alloc::Global;
 
-/// The choices in front of a line, and the words after them, where the choices are well formed.
+/// Parses the options in front of a line. Returns their choices and the words after them, or `None`
+/// if an option is malformed.
 pub(crate) fn front_of<'a, 'b>(
     alloc: Global,
     words: &'b [&'a str],
@@ -30,7 +31,7 @@ pub(crate) fn front_of<'a, 'b>(
     Ok(Some((choices, &words[start..])))
 }
 
-/// Whether words begin with an option.
+/// Returns true if the words begin with an option.
 fn has_option(words: &[&str]) -> bool
     ensures { result ≡ has_option (map (λ word. word.now) words.now) }
 {
@@ -40,8 +41,8 @@ fn has_option(words: &[&str]) -> bool
     }
 }
 
-/// Adds what the option at the beginning chooses, where it is well formed, and
-/// answers how many words it takes.
+/// Adds the choices of the option at the beginning, and returns how many words it takes. Returns
+/// `None` if the option is malformed.
 fn add_option(
     alloc: Global,
     choices: &mut Vec<Choice>,
@@ -70,7 +71,7 @@ fn add_option(
     }
 }
 
-/// Adds the limit that the first word gives, where it gives one.
+/// Adds the limit that the first word gives, and returns true. Returns false if it gives none.
 fn add_limit(choices: &mut Vec<Choice>, words: &[&str]) -> Result<bool, NoMem>
     ensures { IfOk result (λ added. MatchBool added
         (IsOption true choices.old.items choices.new.items (map (λ word. word.now) words.now) 1)
@@ -88,7 +89,8 @@ fn add_limit(choices: &mut Vec<Choice>, words: &[&str]) -> Result<bool, NoMem>
     }
 }
 
-/// What the letters of a word after its dash choose, where each chooses something.
+/// Returns the choices of the letters of a word after its dash. Returns `None` if there are no
+/// letters, or if one of them chooses nothing.
 fn letters_of(alloc: Global, word: &str) -> Result<Option<Vec<Choice>>, NoMem>
     requires { 0 < length word.now }
     ensures { IfOk result (λ choices. option_map (λ choices. choices.items) choices
@@ -101,7 +103,7 @@ fn letters_of(alloc: Global, word: &str) -> Result<Option<Vec<Choice>>, NoMem>
     choices_of(alloc, letters)
 }
 
-/// What letters choose, where each chooses something.
+/// Returns the choices of letters, or `None` if one of them chooses nothing.
 fn choices_of(alloc: Global, letters: &[u8]) -> Result<Option<Vec<Choice>>, NoMem>
     ensures { IfOk result (λ choices. option_map (λ choices. choices.items) choices
         ≡ choices_of letters.now) }
@@ -116,7 +118,7 @@ fn choices_of(alloc: Global, letters: &[u8]) -> Result<Option<Vec<Choice>>, NoMe
     Ok(Some(choices))
 }
 
-/// What a change with these choices asks of these words.
+/// Creates the request of a change from its choices and its words.
 pub(crate) fn request_of(
     alloc: Global,
     choices: &[Choice],
@@ -132,7 +134,8 @@ pub(crate) fn request_of(
     }
 }
 
-/// The limit of a line that may have one alone, 0 where it has none.
+/// Returns the limit of a line that may have nothing else in front, or 0 if it has no limit.
+/// Returns `None` if the choices are others.
 pub(crate) fn only_limit(choices: &[Choice]) -> Option<u32>
     ensures { result ≡ only_limit choices.now }
 {
@@ -143,7 +146,7 @@ pub(crate) fn only_limit(choices: &[Choice]) -> Option<u32>
     }
 }
 
-/// The words, each kept.
+/// Copies the words into owned strings.
 pub(crate) fn strings_of(alloc: Global, words: &[&str]) -> Result<Vec<String>, NoMem>
     ensures { IfOk result (λ strings. map string_bytes strings.items
         ≡ map (λ word. word.now) words.now) }

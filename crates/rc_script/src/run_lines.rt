@@ -15,8 +15,8 @@ use rc_select::Request;
 use rc_session::Command;
 use std::alloc::Global;
 
-/// A command as a session line, with the least limit that there is; a newline ends it. None: the
-/// command is an edit, or has a word that no line can have.
+/// Returns a command as a session line, with the least limit that there is and a newline at its
+/// end. Returns `None` if the command is an edit, or has a word that no line can have.
 pub fn step_line(alloc: Global, command: &Command) -> Result<Option<String>, NoMem>
     ensures { IfOk result (λ line. IfSome line (λ text.
         IsStepLine (plain_of command.now) (string_bytes text))) }
@@ -34,7 +34,7 @@ pub fn step_line(alloc: Global, command: &Command) -> Result<Option<String>, NoM
     }
 }
 
-/// A change as a session line, without its newline.
+/// Returns a change as a session line, without its newline.
 fn change_line(alloc: Global, request: &Request) -> Result<String, NoMem> {
     let letters = request.letters(alloc)?;
     let mut line = format!(in alloc; "-t 1 -{letters} change")?;
@@ -45,7 +45,7 @@ fn change_line(alloc: Global, request: &Request) -> Result<String, NoMem> {
     Ok(line)
 }
 
-/// Whether a line has no newline, and says this command under the least limit.
+/// Returns true if a line has no newline and says the given command under the least limit.
 fn says_step(alloc: Global, line: &[u8], command: &Command) -> Result<bool, NoMem>
     ensures { IfOk result (λ says. IsTrue says → (Contains line.now 10 → ⊥)
         × Says line.now (SaysStep (least_limited (plain_of command.now)))) }
@@ -59,7 +59,7 @@ fn says_step(alloc: Global, line: &[u8], command: &Command) -> Result<bool, NoMe
     }
 }
 
-/// Whether the second command is the first one under the least limit.
+/// Returns true if the second command is the first one under the least limit.
 fn is_least_limited(command: &Command, read: &Command) -> bool
     ensures { IsTrue result → plain_of read.now ≡ least_limited (plain_of command.now) }
 {
@@ -71,8 +71,8 @@ fn is_least_limited(command: &Command, read: &Command) -> bool
     }
 }
 
-/// An event as a line of a script, of the services of these names; a newline ends it. None: no line
-/// says it, since the service has no name.
+/// Returns an event, over the services of the given names, as a line of a script with a newline at
+/// its end. Returns `None` if no line can state the event because the service has no name.
 pub fn event_line(alloc: Global, names: &Names, event: Event) -> Result<Option<String>, NoMem>
     ensures { IfOk result (λ line. IfSome line (λ text.
         IsEventLine names.now event (string_bytes text))) }
@@ -85,7 +85,7 @@ pub fn event_line(alloc: Global, names: &Names, event: Event) -> Result<Option<S
     }
 }
 
-/// An event as a line of a script, without its newline.
+/// Returns an event as a line of a script, without its newline.
 fn plain_line(alloc: Global, names: &Names, event: Event) -> Result<String, NoMem> {
     match event {
         Event::Take(worker, service) => {
@@ -99,7 +99,7 @@ fn plain_line(alloc: Global, names: &Names, event: Event) -> Result<String, NoMe
     }
 }
 
-/// How a transition ended, as a line of a script without its newline.
+/// Returns the end of a transition as a line of a script, without its newline.
 fn done_line(alloc: Global, worker: u8, name: &str, outcome: Outcome) -> Result<String, NoMem> {
     match outcome {
         Outcome::Ok => format!(in alloc; "done {worker} {name} ok"),
@@ -109,7 +109,7 @@ fn done_line(alloc: Global, worker: u8, name: &str, outcome: Outcome) -> Result<
     }
 }
 
-/// The name of a service, and nothing where it has none.
+/// Returns the name of a service, or an empty text if it has none.
 fn name_of(names: &Names, service: u16) -> &str {
     if service < names.len() {
         names.name_of(service).text()
@@ -118,7 +118,7 @@ fn name_of(names: &Names, service: u16) -> &str {
     }
 }
 
-/// Whether a line has no newline, and tells of this event.
+/// Returns true if a line has no newline and states the given event.
 fn tells_event(alloc: Global, names: &Names, line: &[u8], event: Event) -> Result<bool, NoMem>
     ensures { IfOk result (λ tells. IsTrue tells → (Contains line.now 10 → ⊥)
         × IsItem names.now line.now (Happens event)) }
@@ -135,7 +135,7 @@ fn tells_event(alloc: Global, names: &Names, line: &[u8], event: Event) -> Resul
     }
 }
 
-/// The line with its newline.
+/// Appends a newline to a line.
 fn ended(line: String) -> Result<Option<String>, NoMem>
     ensures { IfOk result (λ text. IfSome text (λ text.
         string_bytes text ≡ string_bytes line ++ 10 ∷ [])) }

@@ -33,7 +33,7 @@ impl From<AllocError> for ScriptFault {
     }
 }
 
-/// The commands of a script, each with its events, over the services of these names.
+/// Parses the commands of a script, each with its events, over the services of the given names.
 pub fn read_script(alloc: Global, names: &Names, text: &[u8]) -> Result<Vec<Step>, ScriptFault>
     ensures steps { IfOk result (λ steps.
         IsScript names.now text.now (map command_of steps.items)) }
@@ -50,14 +50,15 @@ pub fn read_script(alloc: Global, names: &Names, text: &[u8]) -> Result<Vec<Step
     Ok(steps)
 }
 
-/// The lines of a text.
+/// Splits a text into its lines.
 fn lines_of(alloc: Global, text: &[u8]) -> Result<Vec<&[u8]>, NoMem>
     ensures { IfOk result (λ lines. map (λ line. line.now) lines.items ≡ lines_in text.now) }
 {
     text.split(|byte| *byte == b'\n').collect(alloc)
 }
 
-/// Adds what a line gives, where it may stand after these commands.
+/// Adds what a line gives to the given commands, and returns true. Returns false if the line may
+/// not stand after them.
 fn add_line(alloc: Global, names: &Names, steps: &mut Vec<Step>, line: &[u8]) -> Result<bool, NoMem>
     ensures { IfOk result (λ added. MatchBool added
         (AddsLine names.now line.now (map command_of steps.old.items)
@@ -78,7 +79,7 @@ fn add_line(alloc: Global, names: &Names, steps: &mut Vec<Step>, line: &[u8]) ->
     }
 }
 
-/// The event of a line that is no session line.
+/// Parses the event of a line that is no session line.
 pub(crate) fn event_of(alloc: Global, names: &Names, line: &[u8]) -> Result<Option<Event>, NoMem>
     ensures { IfOk result (λ event. IsItemSaying names.now line.now SaysWrong (event_item event)) }
 {
@@ -89,7 +90,8 @@ pub(crate) fn event_of(alloc: Global, names: &Names, line: &[u8]) -> Result<Opti
     }
 }
 
-/// Gives an event to the last command, where it takes events.
+/// Gives an event to the last command, and returns true. Returns false if there is none that takes
+/// events.
 fn add_event(steps: &mut Vec<Step>, event: Event) -> Result<bool, NoMem>
     ensures { IfOk result (λ added. MatchBool added
         (with_event (map command_of steps.old.items) event ≡ Some (map command_of steps.new.items))
@@ -107,7 +109,7 @@ fn add_event(steps: &mut Vec<Step>, event: Event) -> Result<bool, NoMem>
     }
 }
 
-/// A command with one event more.
+/// Returns a command with one more event, or `None` if it takes no events.
 fn taking(step: Step, event: Event) -> Result<Option<Step>, NoMem>
     ensures { IfOk result (λ more. option_map command_of more ≡ taking (command_of step) event) }
 {

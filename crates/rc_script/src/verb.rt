@@ -1,7 +1,7 @@
 ghost use Rattle.std.specs.Prelude.{◌≡◌};
 ghost use Rattle.rc_script.specs.Says.{verb_of};
 
-/// What a line tells to do, by its one word that is no option.
+/// What a line does, by its first word that is no option.
 #[derive(Clone, Copy, PartialEq, Eq)]
 pub(crate) enum Verb {
     Change,
@@ -16,7 +16,7 @@ pub(crate) enum Verb {
 }
 
 impl Verb {
-    /// The verb of a word.
+    /// Returns the verb that a word spells, or `None` if it spells none.
     pub(crate) fn of(word: &str) -> Option<Verb>
         ensures { result ≡ verb_of word.now }
     {

@@ -10,7 +10,7 @@ use std::alloc::Global;
 /// The most digits of a limit.
 const MAX_DIGITS: usize = 10;
 
-/// The words of a line: what stands between its spaces and tabs.
+/// Splits a line into its words, at spaces and tabs.
 pub fn words_of<'a>(alloc: Global, line: &'a [u8]) -> Result<Vec<&'a [u8]>, NoMem>
     ensures { IfOk result (λ words. map (λ word. word.now) words.items ≡ words_in line.entry.now) }
 {
@@ -19,14 +19,14 @@ pub fn words_of<'a>(alloc: Global, line: &'a [u8]) -> Result<Vec<&'a [u8]>, NoMe
         .collect(alloc)
 }
 
-/// Whether a byte is a space or a tab.
+/// Returns true if a byte is a space or a tab.
 fn is_blank(byte: u8) -> bool
     ensures { result ≡ is_blank byte }
 {
     byte == b' ' || byte == b'\t'
 }
 
-/// Whether words are those of an empty line or a comment.
+/// Returns true if the words are those of an empty line or a comment.
 pub(crate) fn is_silent(words: &[&[u8]]) -> bool
     ensures { result ≡ is_silent (map (λ word. word.now) words.now) }
 {
@@ -36,7 +36,7 @@ pub(crate) fn is_silent(words: &[&[u8]]) -> bool
     }
 }
 
-/// The words as texts, where each is UTF-8.
+/// Returns the words as texts, or `None` if one of them is not UTF-8.
 pub fn texts_of<'a>(alloc: Global, words: &[&'a [u8]]) -> Result<Option<Vec<&'a str>>, NoMem>
     ensures { IfOk result (λ texts. MatchOption texts
         (All IsUtf8 (map (λ word. word.now) words.entry.now) → ⊥)
@@ -53,7 +53,7 @@ pub fn texts_of<'a>(alloc: Global, words: &[&'a [u8]]) -> Result<Option<Vec<&'a 
     Ok(Some(texts))
 }
 
-/// The limit that a word gives, in milliseconds.
+/// Parses a limit in milliseconds.
 pub(crate) fn limit_of(word: &str) -> Option<u32>
     ensures { result ≡ limit_of word.now }
 {
@@ -64,14 +64,14 @@ pub(crate) fn limit_of(word: &str) -> Option<u32>
     }
 }
 
-/// Whether a word is one digit or more.
+/// Returns true if a word consists of one digit or more.
 pub fn is_digits(word: &str) -> bool
     ensures { result ≡ is_digits word.now }
 {
     !word.is_empty() && are_digits(word.as_bytes())
 }
 
-/// Whether bytes are digits.
+/// Returns true if all bytes are digits.
 fn are_digits(bytes: &[u8]) -> bool
     ensures { result ≡ all_ascii_digits bytes.now }
 {

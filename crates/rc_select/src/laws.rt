@@ -6,7 +6,7 @@ ghost use Rattle.rc_model.specs.Graph.{IsClosed};
 ghost use Rattle.rc_model.specs.Database.{Bundles, Database};
 ghost use Rattle.rc_model.specs.Plan.{Ask, IsEssentialUp, IsWanted, Target};
 
-/// The target of a closed set is closed, whatever is asked.
+/// States that the target of a closed set is closed, whatever the request is.
 pub fn target_is_closed()
     ensures { (d : Database) (table : Bundles) (up : List Bool) (ask : Ask) →
         IsClosed d.needs (Has up) →

@@ -40,7 +40,7 @@ impl Model for Plan {
     }) };
 }
 
-// Not derived: a crate that lets one go calls this, and proves nothing of its parts.
+// Not derived: a crate that drops a plan calls this, and proves nothing about its parts.
 impl Drop for Plan {
     fn drop(self) {
         let Plan {
@@ -53,8 +53,8 @@ impl Drop for Plan {
 }
 
 impl Plan {
-    /// What is up before the change. What goes down was up, what comes up was not, what is kept was
-    /// up and does not go down, and all four sets have one bound.
+    /// Returns the services that are up before the change. What goes down was up, what comes up was
+    /// not, what is kept was up and does not go down, and all four sets have one bound.
     pub fn opening(&self) -> &Set
         ensures set { result.now ≡ self.now.opening }
         ensures plan { IsPlan self.now }
@@ -62,22 +62,22 @@ impl Plan {
         &self.opening
     }
 
-    /// What the change takes down.
+    /// Returns the services that the change takes down.
     pub fn lower(&self) -> &Set
         ensures { result.now ≡ self.now.lower }
     {
         &self.lower
     }
 
-    /// What the change brings up.
+    /// Returns the services that the change brings up.
     pub fn raise(&self) -> &Set
         ensures { result.now ≡ self.now.raise }
     {
         &self.raise
     }
 
-    /// The essential services that stay up although the change would have taken them down. What
-    /// they need stays too, and is not listed.
+    /// Returns the essential services that stay up although the change would have taken them down.
+    /// What they need stays too, and is not listed.
     pub fn kept(&self) -> &Set
         ensures { result.now ≡ self.now.kept }
     {
@@ -85,7 +85,7 @@ impl Plan {
     }
 }
 
-/// The plan from one set of services to another. It keeps nothing.
+/// Creates the plan from one set of services to another. The plan keeps nothing.
 pub fn between(alloc: Global, graph: &Graph, from: &Set, to: &Set) -> Result<Plan, NoMem>
     requires from_bound { length from.now ≡ length graph.now }
     requires to_bound { length to.now ≡ length graph.now }
@@ -97,7 +97,7 @@ pub fn between(alloc: Global, graph: &Graph, from: &Set, to: &Set) -> Result<Pla
     leading(alloc, from, to, kept)
 }
 
-/// The plan that brings services up with all that they need, and takes nothing down.
+/// Creates the plan that brings services up with all that they need, and takes nothing down.
 pub fn plan_up(alloc: Global, graph: &Graph, up: &Set, wanted: &Set) -> Result<Plan, NoMem>
     requires up_bound { length up.now ≡ length graph.now }
     requires wanted_bound { length wanted.now ≡ length graph.now }
@@ -110,7 +110,7 @@ pub fn plan_up(alloc: Global, graph: &Graph, up: &Set, wanted: &Set) -> Result<P
     between(alloc, graph, up, &target)
 }
 
-/// The plan from one set of services to another that keeps these.
+/// Creates the plan from one set of services to another that keeps the given services.
 pub(crate) fn leading(alloc: Global, from: &Set, to: &Set, kept: Set) -> Result<Plan, NoMem>
     requires to_bound { length to.now ≡ length from.now }
     requires kept_bound { length kept ≡ length from.now }

@@ -24,7 +24,7 @@ pub struct Request {
 }
 
 impl Request {
-    /// Moves names under a limit, without other options.
+    /// Creates a request that moves names under a limit, without other options.
     pub fn plain(mode: Mode, names: Vec<String>, limit: u32) -> Request
         ensures { ask_of result ≡ plain_ask mode (map string_bytes names.items) limit }
     {
@@ -37,7 +37,7 @@ impl Request {
         }
     }
 
-    /// Whether it moves these names under this limit, without other options.
+    /// Returns true if the request moves these names under this limit, without other options.
     pub fn is_plain(&self, mode: Mode, names: &[String], limit: u32) -> bool
         ensures { IsTrue result
             ↔ (ask_of self.now ≡ plain_ask mode (map string_bytes names.now) limit) }
@@ -48,7 +48,7 @@ impl Request {
         are_same(&self.names, names)
     }
 
-    /// Whether it is the same as another request but for the limit, which is this one.
+    /// Returns true if the request equals another one but for its limit, which is `limit`.
     pub fn is_limited(&self, other: &Request, limit: u32) -> bool
         ensures { IsTrue result
             ↔ (ask_of self.now ≡ record (ask_of other.now) { limit = limit }) }
@@ -59,7 +59,7 @@ impl Request {
         self.limit == limit && are_same(&self.names, &other.names)
     }
 
-    /// The letters of its options, as in front of a session line.
+    /// Returns the letters of the request's options, as they stand in front of a session line.
     pub fn letters(&self, alloc: Global) -> Result<String, NoMem>
         ensures { IfOk result (λ letters. string_bytes letters ≡ letters_of (ask_of self.now)) }
     {
@@ -70,7 +70,7 @@ impl Request {
     }
 }
 
-// The letter of a way.
+// Returns the letter of a mode.
 fn way_letter(mode: Mode) -> &'static str
     ensures { result.now ≡ way_letter mode ∷ [] }
 {
@@ -81,14 +81,14 @@ fn way_letter(mode: Mode) -> &'static str
     }
 }
 
-// A letter, if its flag is on.
+// Returns a letter if its flag is on, and nothing otherwise.
 fn letter_if(is_on: bool, letter: &str) -> &str
     ensures { result.now ≡ (if is_on then letter.now else []) }
 {
     if is_on { letter } else { "" }
 }
 
-// Whether two lists of names are one.
+// Returns true if two lists of names are equal.
 fn are_same(names: &[String], others: &[String]) -> bool
     ensures { IsTrue result ↔ (map string_bytes names.now ≡ map string_bytes others.now) }
 {
@@ -113,7 +113,7 @@ pub enum Choice {
 }
 
 impl Choice {
-    /// What a letter chooses.
+    /// Returns the choice of a letter, if it has one.
     pub fn of(letter: u8) -> Option<Choice>
         ensures { result ≡ choice_of letter }
     {
@@ -132,7 +132,7 @@ impl Choice {
 pub trait Flags {
     ghost on: { Self → List ℕ → Bool };
 
-    /// Whether a flag is on.
+    /// Returns true if a flag is on.
     fn is_on(&self, name: &str) -> bool
         ensures { result ≡ on self.now name.now };
 }
@@ -149,7 +149,7 @@ pub struct Chosen {
 }
 
 impl Chosen {
-    /// Nothing chosen.
+    /// Returns the options with nothing chosen.
     fn none() -> Chosen
         ensures { result ≡ none_chosen }
     {
@@ -163,7 +163,7 @@ impl Chosen {
         }
     }
 
-    /// The same with one more choice.
+    /// Returns the options with one more choice.
     fn with(mut self, choice: Choice) -> Chosen
         ensures { result ≡ with_choice self choice }
     {
@@ -178,7 +178,7 @@ impl Chosen {
         self
     }
 
-    /// What these choices come to, in this order.
+    /// Returns the options with these choices made, in this order.
     pub fn by(choices: &[Choice]) -> Chosen
         ensures { result ≡ with_choices none_chosen choices.now }
     {
@@ -189,7 +189,7 @@ impl Chosen {
         chosen
     }
 
-    /// What the flags of a command line come to, without a limit.
+    /// Returns the options that the flags of a command line choose, without a limit.
     pub fn given<F: Flags>(flags: &F) -> Chosen
         ensures { result ≡ chosen_in (F.on flags.now) }
     {
@@ -203,7 +203,8 @@ impl Chosen {
         }
     }
 
-    /// The mode of the three ways, of which one at most may be chosen; up where none is.
+    /// Returns the mode that is chosen, or up if none is. At most one of the three ways may be
+    /// chosen.
     pub fn mode(self) -> Option<Mode>
         ensures { result ≡ mode_of self }
     {
@@ -215,7 +216,7 @@ impl Chosen {
         }
     }
 
-    /// The change of these names in that mode.
+    /// Creates the request for these names in that mode.
     pub fn request(self, mode: Mode, names: Vec<String>) -> Request
         ensures { ask_of result ≡ asked_with self (map string_bytes names.items) mode }
     {

@@ -18,8 +18,8 @@ use rc_graph::Graph;
 use rc_set::{NoMem, Set};
 use std::alloc::Global;
 
-/// The plan of a request, from what is up. The bundles are those of the table, which
-/// may differ from the database's.
+/// Creates the plan of a request, from what is up. The bundles are those of the table, which may
+/// differ from the database's.
 pub fn plan(
     alloc: Global,
     db: &Db,
@@ -51,7 +51,7 @@ pub fn plan(
     Ok(plan)
 }
 
-/// The services that are wanted.
+/// Returns the services that a request wants.
 fn wanted(
     alloc: Global,
     db: &Db,
@@ -79,7 +79,7 @@ fn wanted(
     Ok(wanted)
 }
 
-/// What a refusal of the words says of the plan.
+/// Converts a refusal of the words into the fault of the plan.
 fn fault_of(fault: QueryFault) -> PlanFault
     ensures { (names : List (List ℕ)) (table : Bundles) (words : List (List ℕ)) →
         IsNamesFault names table words fault → IsWantedFault names table words result }
@@ -90,7 +90,7 @@ fn fault_of(fault: QueryFault) -> PlanFault
     }
 }
 
-/// The essential services that are up, where the mode asks for them, and none where it does not.
+/// Returns the essential services that are up if the mode asks for them, and none otherwise.
 fn essential_for(alloc: Global, db: &Db, up: &Set, mode: Mode, prune: bool) -> Result<Set, NoMem>
     requires { length up.now ≡ length db.now.names }
     ensures bound { IfOk result (λ set. length set ≡ length db.now.names) }
@@ -104,7 +104,7 @@ fn essential_for(alloc: Global, db: &Db, up: &Set, mode: Mode, prune: bool) -> R
     }
 }
 
-/// The essential services that are up.
+/// Returns the essential services that are up.
 fn essential_up(alloc: Global, db: &Db, up: &Set) -> Result<Set, NoMem>
     requires { length up.now ≡ length db.now.names }
     ensures bound { IfOk result (λ set. length set ≡ length db.now.names) }
@@ -122,7 +122,7 @@ fn essential_up(alloc: Global, db: &Db, up: &Set) -> Result<Set, NoMem>
     Ok(set)
 }
 
-/// The plan from what is up to what a mode makes of it.
+/// Creates the plan from what is up to what a mode makes of it.
 fn planned(
     alloc: Global,
     graph: &Graph,

@@ -15,7 +15,8 @@ pub(crate) struct Sides {
     pub(crate) kept: Set,
 }
 
-/// What a change leads to, from what is up, the essential services among that, and what is wanted.
+/// Computes the target of a change and the essential services that stay, from what is up, the
+/// essential services among that, and what is wanted.
 pub(crate) fn sides_of(
     alloc: Global,
     graph: &Graph,
@@ -39,7 +40,7 @@ pub(crate) fn sides_of(
     }
 }
 
-/// The wanted come up.
+/// Computes the sides of a change that brings the wanted up.
 fn raised(
     alloc: Global,
     graph: &Graph,
@@ -58,7 +59,8 @@ fn raised(
     Ok(Sides { target, kept })
 }
 
-/// The wanted come up, and all else goes but for what essential services hold up.
+/// Computes the sides of a change that brings the wanted up, and takes all else down but for what
+/// essential services hold up.
 fn pruned(
     alloc: Global,
     graph: &Graph,
@@ -78,7 +80,8 @@ fn pruned(
     Ok(Sides { target, kept })
 }
 
-/// The wanted go down, but for what essential services hold up.
+/// Computes the sides of a change that takes the wanted down, but for what essential services hold
+/// up.
 fn lowered(
     alloc: Global,
     graph: &Graph,
@@ -103,7 +106,7 @@ fn lowered(
     Ok(Sides { target, kept })
 }
 
-/// The wanted go down.
+/// Computes the sides of a change that takes the wanted down, whatever is essential.
 fn lowered_all(
     alloc: Global,
     graph: &Graph,
@@ -124,7 +127,7 @@ fn lowered_all(
     Ok(Sides { target, kept })
 }
 
-/// The ids that are in both of two sets.
+/// Returns the ids that are in both of two sets.
 fn both(alloc: Global, one: &Set, other: &Set) -> Result<Set, NoMem>
     requires { length other.now ≡ length one.now }
     ensures bound { IfOk result (λ set. length set ≡ length one.now) }

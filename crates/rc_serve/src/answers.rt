@@ -26,7 +26,7 @@ use std::alloc::Global;
 use std::sync::Wait;
 use std::thread::Threads;
 
-/// Does what a session line says, keeps what it altered, and answers.
+/// Carries a session line out, keeps what it altered, and returns the answer.
 ///
 /// An empty line and a comment have no answer.
 #[tactic(none)]
@@ -60,7 +60,7 @@ pub(crate) fn line_answer<T: Threads + Wait + Sync, K: Keeper, G: Gate>(
     }
 }
 
-/// Does what is said, keeps what it altered, and answers.
+/// Carries a parsed session line out, keeps what it altered, and returns the answer.
 #[tactic(none)]
 pub(crate) fn said_answer<T: Threads + Wait + Sync, K: Keeper, G: Gate>(
     executor: &Executor<'_, T, G>,
@@ -93,9 +93,9 @@ pub(crate) fn said_answer<T: Threads + Wait + Sync, K: Keeper, G: Gate>(
     }
 }
 
-/// Carries a command out, keeps the line of states if it has altered, and answers.
+/// Carries a command out, keeps the line of states if it has changed, and returns the answer.
 ///
-/// It has altered exactly where its current state has, since neighbours differ.
+/// The line has changed exactly if its current state has, since neighbours differ.
 fn kept_answer<T: Threads + Wait + Sync, K: Keeper, G: Gate>(
     executor: &Executor<'_, T, G>,
     session: &mut Session,
@@ -143,15 +143,15 @@ fn kept_answer<T: Threads + Wait + Sync, K: Keeper, G: Gate>(
     }
 }
 
-/// Tells a gate that a command is over which altered nothing. After a fault it is not told, since
-/// services may have moved.
+/// Reports to a gate that a command which altered nothing is over. After a fault nothing is
+/// reported, since services may have moved.
 fn end_unaltered<G: Gate>(gate: &G, answer: &Result<Answer, ServeFault>) {
     if answer.is_ok() {
         gate.end();
     }
 }
 
-/// A copy of the current state.
+/// Returns a copy of the current state.
 fn current(alloc: Global, session: &Session) -> Result<(Set, Table), NoMem>
     ensures { IfOk result (λ state. (state.0 ≡ session.now.line.current.live)
         × (state.1 ≡ session.now.line.current.table)) }
@@ -161,7 +161,7 @@ fn current(alloc: Global, session: &Session) -> Result<(Set, Table), NoMem>
     Ok((live, table))
 }
 
-/// Whether the current state is this one.
+/// Returns true if the current state is this one.
 fn is_current(session: &Session, live: &Set, table: &Table) -> bool
     requires { length live.now ≡ length session.now.line.current.live }
     ensures { IsTrue result ↔ ((session.now.line.current.live ≡ live.now)
@@ -170,7 +170,7 @@ fn is_current(session: &Session, live: &Set, table: &Table) -> bool
     session.live().same(live) && session.table().same(table)
 }
 
-/// Answers what is said where nothing is to be done.
+/// Returns the answer to a line that is not a command, and changes nothing.
 fn shown(alloc: Global, session: &Session, said: &SessionLine) -> Result<Answer, ServeFault>
     requires closed { session.now.begun ≡ false }
     requires shows { (command : Does) → saying_of said.now ≡ SaysStep command → ⊥ }
@@ -189,7 +189,7 @@ fn shown(alloc: Global, session: &Session, said: &SessionLine) -> Result<Answer,
     }
 }
 
-/// Carries a command out, and answers.
+/// Carries a command out, and returns the answer.
 fn step_answer<T: Threads + Wait + Sync, G: Gate>(
     executor: &Executor<'_, T, G>,
     session: &mut Session,

@@ -8,7 +8,7 @@ use rc_session::Report;
 /// How a line ends.
 #[derive(Clone, Copy, PartialEq, Eq, Debug)]
 pub enum Ending {
-    /// All that was planned is done, or what was asked for is shown.
+    /// All that was planned is done, or what was requested is shown.
     Done = 0,
     /// It is refused, and nothing has changed.
     Refused = 1,
@@ -23,7 +23,7 @@ pub(crate) struct Answer {
     pub ending: Ending,
 }
 
-/// How a command ends that was carried out, by its report.
+/// Returns the ending of a command that was carried out, by its report.
 pub(crate) fn ending_of(report: &Report) -> Ending
     ensures { result ≡ ending_of (told_of report.now) }
 {
@@ -33,7 +33,7 @@ pub(crate) fn ending_of(report: &Report) -> Ending
     Ending::Hindered
 }
 
-/// The answer to what is refused.
+/// Creates the answer to what is refused.
 pub(crate) fn refused(text: Vec<u8>) -> Answer
     ensures ending { result.ending ≡ Ending.Refused }
     ensures text { result.text ≡ text }
@@ -44,7 +44,7 @@ pub(crate) fn refused(text: Vec<u8>) -> Answer
     }
 }
 
-/// The answer to what is done, or shown.
+/// Creates the answer to what is done, or shown.
 pub(crate) fn done(text: Vec<u8>) -> Answer
     ensures ending { result.ending ≡ Ending.Done }
     ensures text { result.text ≡ text }

@@ -21,17 +21,17 @@ pub enum KeepFault {
 
 /// What keeps the line of states of a session.
 pub trait Keeper {
-    /// Which line of states of a database is kept.
+    /// States that this line of states of a database is kept.
     ghost keeps: { Self → Database → Line → Type 0 };
 
-    /// The faults that it may answer.
+    /// States that the keeper may return this fault.
     ghost fails: { Failing → Type 0 };
 
-    /// Whether it has failed.
+    /// States that the keeper has failed.
     ghost failed: { Self → Type 0 };
 
-    /// Keeps where the line stands, in place of what was kept. Where it fails, what was kept is
-    /// kept, or the line is.
+    /// Keeps the line of states as it stands, in place of what was kept. If that fails, what was
+    /// kept before is still kept, or the line is.
     fn keep(&mut self, alloc: Global, session: &Session) -> Result<(), KeepFault>
         requires { session.now.begun ≡ false }
         ensures kept { OnOk result (keeps self.new session.now.database session.now.line) }

@@ -33,11 +33,12 @@ const MAX_WORKERS: u8 = 64;
 /// written.
 ///
 /// An answer is written whole and flushed. A refused command is answered too, and the session goes
-/// on. It ends with the input, or with a fault: then the lines before were done and answered whole.
-/// The line whose answer could not be made or written may be done as well, and nothing after it is.
+/// on. The session ends with the input, or with a fault. After a fault, the lines before were done
+/// and answered whole. The line whose answer could not be made or written may be done as well, and
+/// nothing after it is.
 ///
-/// Time: it grows with the bytes of the lines and with what the commands do; a line costs no more
-/// the longer the journal is, but for `journal`, which shows it.
+/// Time grows with the bytes of the lines and with what the commands do. A line costs no more the
+/// longer the journal is, except for `journal`, which shows it.
 pub fn serve_kept<T: Threads + Wait + Sync, R: Read, W: Write, K: Keeper, G: Gate>(
     rt: &T,
     alloc: Global,
@@ -80,7 +81,7 @@ pub fn serve_kept<T: Threads + Wait + Sync, R: Read, W: Write, K: Keeper, G: Gat
         session.old session.new) }
 
     // Where the gate lets exactly certain transitions fail, and no limit is reached, what was
-    // written is the text of the session for these, or a prefix of it: its bytes hang neither on
+    // written is the text of the session for these, or a prefix of it: its bytes depend neither on
     // the number of workers nor on who was quicker.
     ensures text { (fails : ℕ → Way → Bool) →
         FailsExactly (G.answers gate.now) fails →
@@ -153,7 +154,7 @@ pub fn serve_kept<T: Threads + Wait + Sync, R: Read, W: Write, K: Keeper, G: Gat
     serve_lines(&executor, reader, writer, session, keeper)
 }
 
-/// The same with a right number of workers.
+/// Serves the lines of a session with a right number of workers.
 fn serve_lines<T: Threads + Wait + Sync, R: Read, W: Write, K: Keeper, G: Gate>(
     executor: &Executor<'_, T, G>,
     reader: &mut Noted<R>,
@@ -200,7 +201,7 @@ fn serve_lines<T: Threads + Wait + Sync, R: Read, W: Write, K: Keeper, G: Gate>(
     Ok(())
 }
 
-/// Answers the next line. False: it was the last one, or there was none.
+/// Answers the next line. Returns false if it was the last one, or there was none.
 fn next_answer<T: Threads + Wait + Sync, R: Read, W: Write, K: Keeper, G: Gate>(
     executor: &Executor<'_, T, G>,
     lines: &mut Lines,

@@ -15,8 +15,8 @@ ghost use Rattle.rc_serve.specs.declared.ending.Ending.{Ending};
 use rc_board::Gate;
 use rc_script::laws::lines_say_one_thing;
 
-/// Where certain transitions fail, an input has one text, and leads to one line of states: it hangs
-/// neither on the number of workers nor on who was quicker.
+/// States that an input has one text, and leads to one line of states, where certain transitions
+/// fail. Neither depends on the number of workers or on who was quicker.
 pub fn session_texts_are_one()
     ensures { (fails : ℕ → Way → Bool) (d : Database) (here a b : Line)
         (bytes text other : List ℕ) →
@@ -26,15 +26,15 @@ pub fn session_texts_are_one()
     lines_say_one_thing();
 }
 
-/// What session lines come to is a play of the commands among them, so what is promised of those
-/// holds all along it.
+/// States that the result of session lines is a play of the commands among them. So what is
+/// promised of those holds all along it.
 pub fn served_lines_are_a_play()
     ensures { (d : Database) (here new : Line) (lines : List (List ℕ)) (text : List ℕ) →
         IsDatabase d → IsLineOf d here → Serves IsDone d here lines text new →
         ArePlayed d here lines new }
 {}
 
-/// What one line alone comes to, past a gate, is what a session of this one line comes to.
+/// States that the result of one line alone, with a gate, is that of a session of this one line.
 pub fn one_line_is_a_session<G: Gate>(gate: &G)
     ensures { (workers : ℕ) (ending : Ending) (d : Database) (here new : Line) (bytes : List ℕ)
         (saying : Saying) (text : List ℕ) → Says bytes saying →

@@ -26,8 +26,8 @@ use std::io::Write;
 use std::sync::Wait;
 use std::thread::Threads;
 
-/// Does what one line says, keeps what it altered, and writes its answer, as `serve` does for each
-/// line of its input. Answers how the line ended.
+/// Carries one line out, keeps what it altered, and writes its answer, as `serve_kept` does for
+/// each line of its input. Returns how the line ended.
 pub fn answer_once<T: Threads + Wait + Sync, W: Write, K: Keeper, G: Gate>(
     executor: &Executor<'_, T, G>,
     session: &mut Session,

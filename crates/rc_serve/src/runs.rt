@@ -1,4 +1,4 @@
-//! What came of a change, an undo or a redo by workers, as an answer.
+//! The answers to a change, an undo or a redo by workers.
 ghost use Rattle.std.specs.Prelude.{◌≡◌, map, string_bytes, Err, IfOk, IfErr};
 ghost use Rattle.rc_serve.specs.Faults.{IsInner, IsStrange};
 ghost use Rattle.rc_serve.specs.Telling.{IsToldAs};
@@ -11,7 +11,7 @@ use rc_render::{refusal_text, report_text};
 use rc_session::Report;
 use std::alloc::Global;
 
-/// What came of a command, as text. Its words are those that a refusal may tell.
+/// Returns the answer to a command, from its outcome. `words` are those that a refusal may name.
 pub(crate) fn told(
     alloc: Global,
     names: &Names,

@@ -24,15 +24,16 @@ use std::io::{Read, Write};
 use std::sync::Wait;
 use std::thread::Threads;
 
-/// Runs a session: reads lines, does what each says, and answers it before it waits for the next
-/// one. Nothing keeps the session; `serve_kept` does the same with a keeper.
+/// Runs a session: reads lines, carries each out, and answers it before it waits for the next one.
+/// Nothing keeps the session; `serve_kept` does the same with a keeper.
 ///
 /// An answer is written whole and flushed. A refused command is answered too, and the session goes
-/// on. It ends with the input, or with a fault: then the lines before were done and answered whole.
-/// The line whose answer could not be made or written may be done as well, and nothing after it is.
+/// on. The session ends with the input, or with a fault. After a fault, the lines before were done
+/// and answered whole. The line whose answer could not be made or written may be done as well, and
+/// nothing after it is.
 ///
-/// Time: it grows with the bytes of the lines and with what the commands do; a line costs no more
-/// the longer the journal is, but for `journal`, which shows it.
+/// Time grows with the bytes of the lines and with what the commands do. A line costs no more the
+/// longer the journal is, except for `journal`, which shows it.
 pub fn serve<T: Threads + Wait + Sync, R: Read, W: Write, G: Gate>(
     rt: &T,
     alloc: Global,

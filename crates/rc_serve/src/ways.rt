@@ -1,4 +1,4 @@
-//! What an undo or a redo would move, shown.
+//! Shows what an undo or a redo would move.
 ghost use Rattle.std.specs.Prelude.{◌≡◌, ◌<◌, ◌++◌, [], ℕ, List, false, IfErr, IfOk, OnOk, Some};
 ghost use Rattle.std.specs.Prelude.{length, slice_get};
 ghost use Rattle.std.specs.Io.KnownBytes.{Appends};
@@ -72,7 +72,7 @@ pub fn show_redo<W: Write>(
     Ok(answer.ending)
 }
 
-// The plan of an undo with `ok`, or that there is nothing to undo.
+// Returns the plan of an undo with `ok`, or that there is nothing to undo.
 fn undo_answer(alloc: Global, session: &Session) -> Result<Answer, NoMem>
     requires closed { session.now.begun ≡ false }
     ensures { IfOk result (λ answer. EndsWay answer.ending session.now.database session.now.line
@@ -89,7 +89,7 @@ fn undo_answer(alloc: Global, session: &Session) -> Result<Answer, NoMem>
     planned(alloc, session.db().names(), plan)
 }
 
-// The plan of a redo with `ok`, or that there is nothing to redo.
+// Returns the plan of a redo with `ok`, or that there is nothing to redo.
 fn redo_answer(alloc: Global, session: &Session) -> Result<Answer, NoMem>
     requires closed { session.now.begun ≡ false }
     ensures { IfOk result (λ answer. EndsWay answer.ending session.now.database session.now.line
@@ -107,7 +107,7 @@ fn redo_answer(alloc: Global, session: &Session) -> Result<Answer, NoMem>
     planned(alloc, session.db().names(), plan)
 }
 
-// The plan from the current state to the one at a place.
+// Returns the plan from the current state to the one at a place.
 fn plan_to(alloc: Global, session: &Session, place: usize) -> Result<Plan, NoMem>
     requires closed { session.now.begun ≡ false }
     requires place { place < length (states session.now.line) }
@@ -124,7 +124,7 @@ fn plan_to(alloc: Global, session: &Session, place: usize) -> Result<Plan, NoMem
     plan
 }
 
-// A plan as it is shown, with `ok`.
+// Returns a plan as it is shown, with `ok`.
 fn planned(alloc: Global, names: &Names, plan: Plan) -> Result<Answer, NoMem>
     requires { length plan.opening ≡ length names.now }
     ensures ending { IfOk result (λ answer. answer.ending ≡ Done) }

@@ -19,24 +19,25 @@ ghost use Rattle.rc_model.specs.Headline.{UndosLeaveWhatRemains, RedosLeaveWhatR
 ghost use Rattle.rc_model.specs.Headline.{HistoryIsKept, UndosGoOn, RedosGoOn, Headline};
 
 /// The headline. For every database, every line of it and every list of commands, with whatever
-/// events: each change runs in dependency order and keeps what is live strictly closed; its entry
-/// names exactly what it altered; no history is lost, but for the state that a full line drops;
-/// undos that all go well restore, one after the other, each state that the line keeps, live set
-/// and bundles, and redos the same forwards; a failed undo leaves exactly the inverse of what
-/// remains, a failed redo what remains; and the next one that goes well ends where the failed one
-/// was to end.
+/// events, the following holds. Each change runs in dependency order and keeps what is live
+/// strictly closed. Its entry names exactly what it altered. No history is lost, except for the
+/// state that a full line drops. Undos that all go well restore, one after the other, each state
+/// that the line keeps, live set and bundles; redos do the same forwards. A failed undo leaves
+/// exactly the inverse of what remains, and a failed redo leaves what remains. The next one that
+/// goes well ends where the failed one was to end.
 pub fn headline()
     ensures { Headline }
 {}
 
-/// What runs is a settled run of its command's task, strictly closed at each moment, and the new
-/// state has what is live in the end, which is the target of the command where all went well.
+/// Each run is a settled run of its command's task, strictly closed at each moment. The new state
+/// has what is live in the end. If all went well, that is the target of the command.
 pub fn told_runs_are_settled()
     ensures { (d : Database) (line : Line) → IsDatabase d → IsLineOf d line →
         RunsAreOrderly d line }
 {}
 
-/// The entry of a change names exactly what it is told to have altered, and not what was planned.
+/// The entry of a change names exactly what the change is reported to have altered, and not what
+/// was planned.
 pub fn change_enters_what_it_altered()
     ensures { (d : Database) (line : Line) → IsLineOf d line → ChangesAreEntered d line }
 {}
@@ -46,13 +47,14 @@ pub fn edit_enters_what_it_altered()
     ensures { (d : Database) (line : Line) → IsLineOf d line → EditsAreEntered d line }
 {}
 
-/// Undos that all go well restore, one after the other, the states that the line keeps, and
-/// leave the line's states alone.
+/// Undos that all go well restore, one after the other, the states that the line keeps, and leave
+/// the line's states alone.
 pub fn undos_restore()
     ensures { (d : Database) (line : Line) → IsDatabase d → IsLineOf d line → UndosRestore d line }
 {}
 
-/// The same holds forwards.
+/// Redos that all go well restore, one after the other, the states that the line keeps after the
+/// current one, and leave the line's states alone.
 pub fn redos_restore()
     ensures { (d : Database) (line : Line) → IsDatabase d → IsLineOf d line → RedosRestore d line }
 {}
@@ -63,8 +65,9 @@ pub fn failed_undo_leaves_what_remains()
     ensures { (d : Database) (line : Line) → IsLineOf d line → UndosLeaveWhatRemains d line }
 {}
 
-/// Whatever is done keeps history: a change or an edit each state up to the cursor, an undo or a
-/// redo, failed or not, each state; but where that is one more than there may be, one goes.
+/// Every command keeps history. A change or an edit keeps each state up to the cursor. An undo or a
+/// redo, failed or not, keeps each state. If that is one state more than there may be, one is
+/// dropped.
 pub fn history_is_kept()
     ensures { (d : Database) (line : Line) → IsLineOf d line → HistoryIsKept d line }
 {}
@@ -75,7 +78,7 @@ pub fn failed_redo_leaves_what_remains()
     ensures { (d : Database) (line : Line) → IsLineOf d line → RedosLeaveWhatRemains d line }
 {}
 
-/// Where an undo or a redo failed, the next one that goes well ends where it was to end.
+/// If an undo or a redo failed, the next one that goes well ends where the failed one was to end.
 pub fn next_goes_on()
     ensures undo { (d : Database) (line : Line) → IsDatabase d → IsLineOf d line →
         UndosGoOn d line }
@@ -83,22 +86,22 @@ pub fn next_goes_on()
         RedosGoOn d line }
 {}
 
-/// Each command that names what it defines cannot be begun for a fault of its own, or can go
-/// well. So there is always an answer.
+/// Each command that names what it defines either cannot be begun, for a fault of its own, or can
+/// go well. So there is always an answer.
 pub fn each_command_is_answered()
     ensures { (d : Database) (line : Line) → IsDatabase d → IsLineOf d line →
         EachIsAnswered d line }
 {}
 
-/// Where there is a state before the current one its undo can go well, and then the line
-/// stands on it; and so with a redo.
+/// If there is a state before the current one, an undo can go well, and then the line stands on
+/// that state. The same holds for a redo and the state after the current one.
 pub fn ways_lead_back_and_on()
     ensures back { (d : Database) (line : Line) → IsDatabase d → IsLineOf d line → WaysBack d line }
     ensures on { (d : Database) (line : Line) → IsDatabase d → IsLineOf d line → WaysOn d line }
 {}
 
-/// A play is its steps: what is said of one command, from a line of the database,
-/// reaches each command of a list.
+/// A play is its steps: what holds for one command, from a line of the database, holds for each
+/// command of a list.
 pub fn plays_go_step_by_step()
     ensures parts { (d : Database) (line new : Line) (commands : List Command)
         (answers : List (Result Reported Refusal)) (k : ℕ) →
@@ -115,7 +118,8 @@ pub fn plays_go_step_by_step()
         × Answers d here command answer next }
 {}
 
-/// Each command, done or refused, leads from a line of the database to one, and so do several.
+/// Each command, done or refused, leads from a line of the database to a line of the database, and
+/// so do several commands.
 pub fn commands_keep_lines()
     ensures one { (d : Database) (line new : Line) (command : Command)
         (answer : Result Reported Refusal) →
@@ -125,8 +129,8 @@ pub fn commands_keep_lines()
         IsLineOf d line → Plays d line commands answers new → IsLineOf d new }
 {}
 
-/// What a command comes to is determined by where the line stands: one answer, and one line from
-/// then on. So what is done has no cause to be refused, and the lines of which the headline speaks
+/// Where the line stands determines what a command comes to: one answer, and one line from then on.
+/// So a command that is done has no cause to be refused, and the lines of which the headline speaks
 /// are those on which the session stood.
 pub fn answers_are_one()
     ensures one { (d : Database) (line a b : Line) (command : Command)
@@ -137,8 +141,8 @@ pub fn answers_are_one()
         Plays d line commands xs a → Plays d line commands ys b → (xs ≡ ys) × (a ≡ b) }
 {}
 
-/// The run that a command asks for is a course, so it can be opened, and where nothing hinders it
-/// it ends in its target, which is that of the command.
+/// The run that a command asks for is a course, so it can be opened. If nothing hinders the run, it
+/// ends in its target, which is the target of the command.
 pub fn tasks_are_courses()
     ensures course { (d : Database) (line : Line) (command : Command) (start : ℕ) (plan : PlanSets)
         (deadline : Option ℕ) →
@@ -150,7 +154,7 @@ pub fn tasks_are_courses()
         (s : ℕ) → TargetOf (course_of d.needs plan deadline) s ↔ TargetOfCommand d line command s }
 {}
 
-/// A settled run that begins later is one that begins at the moment 0.
+/// A settled run that begins at a later moment is also one that begins at the moment 0.
 pub fn later_runs_are_runs()
     ensures { (needs : List (List ℕ)) (plan : PlanSets) (start limit : ℕ) (events : List Event) →
         IsSettled (course_of needs plan (deadline_of start limit)) events →
@@ -169,8 +173,8 @@ pub fn ways_of_edits_take_no_events()
         DoesByRun d line (Redo limit events) told new → events ≡ [] }
 {}
 
-/// The end of a run that was not stopped depends on what failed, and on nothing else: not on who
-/// was quicker, nor on how many worked. This holds of each run that a play reports.
+/// The end of a run that was not stopped depends on what failed, and on nothing else: not on which
+/// worker was quicker, nor on how many worked. This holds for each run that a play reports.
 pub fn runs_end_alike()
     ensures { (d : Database) (line new : Line) (command : Command) (told : Reported) →
         IsDatabase d → IsLineOf d line → DoesByRun d line command told new →

@@ -1,4 +1,4 @@
-//! Sessions, and what they tell.
+//! Sessions, and what can be read of them.
 
 ghost use Rattle.std.specs.Prelude.{◌≡◌, ◌≤◌, false, Ok, IfOk, All};
 ghost use Rattle.rc_model.specs.Database.{IsDatabase};
@@ -38,7 +38,7 @@ impl Model for Session {
     ghost invariant = { λ s. IsDatabase s.db × IsLineOf s.db s.journal.line };
 }
 
-// Not derived: a crate that lets one go calls this, and proves nothing of its parts.
+// Not derived: a crate that drops a session calls this, and proves nothing of its parts.
 impl Drop for Session {
     fn drop(self) {
         let Session {
@@ -50,7 +50,7 @@ impl Drop for Session {
 }
 
 impl Session {
-    /// A session in which nothing is live yet, with a journal of at most 1,024 states.
+    /// Creates a session in which nothing is live yet, with a journal of at most 1,024 states.
     pub fn new(alloc: Global, db: Db) -> Result<Session, NoMem>
         ensures { IfOk result (λ session. session ≡ record {
           database = db;
@@ -62,7 +62,7 @@ impl Session {
         Session::with_bound(alloc, db, USUAL_BOUND)
     }
 
-    /// A session in which nothing is live yet, with a journal of at most so many states.
+    /// Creates a session in which nothing is live yet, with a journal of at most `bound` states.
     pub fn with_bound(alloc: Global, db: Db, bound: u32) -> Result<Session, NoMem>
         requires { 3 ≤ bound }
         ensures { IfOk result (λ session. session ≡ record {
@@ -87,7 +87,7 @@ impl Session {
         })
     }
 
-    /// A session that goes on with a line. Takes no memory.
+    /// Creates a session that goes on with a line. Takes no memory.
     pub fn resume(db: Db, journal: Line) -> Result<Session, NoMem>
         requires closed { journal.is_open ≡ false }
         requires states { All (IsStateOf db) (states journal.line) }
@@ -98,7 +98,8 @@ impl Session {
           spoiled = false;
         }) }
     {
-        // A database tells by its graph that it is one, and a line by the number of its states.
+        // The contract of `graph` gives that this is a database, and that of `states` that this is
+        // a line.
         let _ = db.graph();
         let _ = journal.states();
         Ok(Session {
@@ -108,7 +109,7 @@ impl Session {
         })
     }
 
-    /// The database.
+    /// Returns the database.
     pub fn db(&self) -> &Db
         ensures db { result.now ≡ self.now.database }
         ensures database { IsDatabase self.now.database }
@@ -116,21 +117,21 @@ impl Session {
         &self.db
     }
 
-    /// What is live. While a run is begun it is what was live before.
+    /// Returns the live services. While a run is begun, they are those that were live before it.
     pub fn live(&self) -> &Set
         ensures { result.now ≡ self.now.line.current.live }
     {
         self.journal.live()
     }
 
-    /// The bundles of the current state.
+    /// Returns the bundles of the current state.
     pub fn table(&self) -> &Table
         ensures { result.now ≡ self.now.line.current.table }
     {
         self.journal.table()
     }
 
-    /// The line of the states that were.
+    /// Returns the line of the states of the session.
     pub fn journal(&self) -> &Line
         ensures journal { result.now ≡ record { line = self.now.line; is_open = self.now.begun } }
         ensures states { IsLineOf self.now.database self.now.line }
@@ -138,7 +139,7 @@ impl Session {
         &self.journal
     }
 
-    /// Whether a run is begun that is not ended yet.
+    /// Returns true if a run is begun that is not ended yet.
     pub fn is_open(&self) -> bool
         ensures { result ≡ self.now.begun }
     {

@@ -20,7 +20,7 @@ ghost use Rattle.rc_set.specs.Filled.{Fills};
 use std::alloc::{AllocError, Global};
 use std::marker::Model;
 
-/// Out of memory: the only refusal of the calls that answer it. Nothing has changed.
+/// Out of memory: the only error of the calls that return it. A call that fails changes nothing.
 pub type NoMem = AllocError;
 
 /// A set of ids below a bound that is fixed when the set is made.
@@ -40,7 +40,7 @@ impl Model for Set {
     ghost invariant = { λ s. AreWords s.bound s.words.items };
 }
 
-// Not derived: a crate that lets one go calls this, and proves nothing of its parts.
+// Not derived: a crate that drops a value calls this, and proves nothing of its parts.
 impl Drop for Set {
     fn drop(self) {
         let Set { words: _, bound: _ } = self;
@@ -48,7 +48,7 @@ impl Drop for Set {
 }
 
 impl Set {
-    /// The set of no ids, with room for those below `bound`.
+    /// Creates an empty set, with room for the ids below `bound`.
     pub fn empty(alloc: Global, bound: u16) -> Result<Set, NoMem>
         requires { bound ≤ 4096 }
         ensures bound { IfOk result (λ set. length set ≡ bound) }
@@ -58,7 +58,7 @@ impl Set {
         Ok(Set { words, bound })
     }
 
-    /// Puts an id in. True: it is new.
+    /// Adds an id. Returns true if the id is new.
     pub fn insert(&mut self, id: u16) -> bool
         requires { id < length self.old }
         ensures fresh { IsTrue result ↔ (Has self.old id → ⊥) }
@@ -70,7 +70,7 @@ impl Set {
         fresh
     }
 
-    /// Takes an id out. True: it was there.
+    /// Removes an id. Returns true if the set had it.
     pub fn remove(&mut self, id: u16) -> bool
         requires { id < length self.old }
         ensures found { IsTrue result ↔ Has self.old id }
@@ -82,7 +82,7 @@ impl Set {
         found
     }
 
-    /// Whether the set has an id.
+    /// Returns true if the set has an id.
     pub fn contains(&self, id: u16) -> bool
         requires { id < length self.now }
         ensures { IsTrue result ↔ Has self.now id }
@@ -90,7 +90,7 @@ impl Set {
         bit(&self.words, id)
     }
 
-    /// The least id of the set from a number on.
+    /// Returns the least id of the set from a number on.
     pub fn next_from(&self, from: u16) -> Option<u16>
         ensures some { IfSome result (IsNextFrom (Has self.now) from) }
         ensures none { IfNone result (HasNoneFrom (Has self.now) from) }
@@ -99,7 +99,8 @@ impl Set {
         next_bit(&self.words, from)
     }
 
-    /// The least id from a number on that the set has and another of the same bound lacks.
+    /// Returns the least id, from a number on, that the set has and another of the same bound
+    /// lacks.
     pub fn next_beyond(&self, other: &Set, from: u16) -> Option<u16>
         requires { length other.now ≡ length self.now }
         ensures some { IfSome result
@@ -128,7 +129,7 @@ impl Set {
         join_words(&mut self.words, &other.words);
     }
 
-    /// Takes out all ids of a set of the same bound.
+    /// Removes all ids of a set of the same bound.
     pub fn without(&mut self, other: &Set)
         requires { length other.now ≡ length self.old }
         ensures members { Holds self.new (λ s. Has self.old s × (Has other.now s → ⊥)) }
@@ -137,7 +138,7 @@ impl Set {
         clear_words(&mut self.words, &other.words);
     }
 
-    /// Gives the set the ids of another of the same bound, and no others.
+    /// Replaces the ids with those of another set of the same bound.
     pub fn overwrite(&mut self, other: &Set)
         requires { length other.now ≡ length self.old }
         ensures { self.new ≡ other.now }
@@ -145,7 +146,7 @@ impl Set {
         self.words.copy_from_slice(&other.words);
     }
 
-    /// Whether two sets of one bound have the same ids.
+    /// Returns true if two sets of one bound have the same ids.
     pub fn same(&self, other: &Set) -> bool
         requires { length other.now ≡ length self.now }
         ensures { IsTrue result ↔ (self.now ≡ other.now) }
@@ -153,7 +154,7 @@ impl Set {
         are_same(&self.words, &other.words)
     }
 
-    /// Another set with the same ids and bound.
+    /// Returns another set with the same ids and bound.
     pub fn copy(&self, alloc: Global) -> Result<Set, NoMem>
         ensures { IfOk result (λ set. set ≡ self.now) }
     {
@@ -164,28 +165,28 @@ impl Set {
         })
     }
 
-    /// The ids, each once, ascending.
+    /// Returns the ids in ascending order, each once.
     pub fn ids(&self, alloc: Global) -> Result<Vec<u16>, NoMem>
         ensures { IfOk result (λ ids. Lists (Has self.now) ids.items) }
     {
         ids_of(alloc, &self.words)
     }
 
-    /// How many ids the set has.
+    /// Returns the number of ids in the set.
     pub fn len(&self) -> u16
         ensures { result ≡ count_by (λ flag. flag) self.now }
     {
         count_of(&self.words)
     }
 
-    /// Whether the set has no id.
+    /// Returns true if the set has no id.
     pub fn is_empty(&self) -> bool
         ensures { IsTrue result ↔ ((s : ℕ) → Has self.now s → ⊥) }
     {
         are_zero(&self.words)
     }
 
-    /// The bound: ids of the set are below it. It is at most 4,096.
+    /// Returns the bound. All ids of the set are below it. It is at most 4,096.
     pub fn bound(&self) -> u16
         ensures bound { result ≡ length self.now }
         ensures small { length self.now ≤ 4096 }
@@ -194,7 +195,7 @@ impl Set {
     }
 }
 
-/// Whether the bit of an id is set.
+/// Returns true if the bit of an id is set.
 fn bit(words: &[u64], id: u16) -> bool
     requires { id < 64 * length words.now }
     ensures { result ≡ has_bit words.now id }
@@ -218,7 +219,7 @@ fn clear_bit(words: &mut [u64], id: u16)
     words[(id / 64) as usize] &= !(1 << (id % 64));
 }
 
-/// Sets the bits of other words, word by word.
+/// Sets the bits that are set in other words, word by word.
 fn join_words(words: &mut [u64], others: &[u64])
     requires { length others.now ≡ length words.old }
     ensures { (s : ℕ) → HasBit words.new s ↔ (HasBit words.old s ⊎ HasBit others.now s) }
@@ -228,7 +229,7 @@ fn join_words(words: &mut [u64], others: &[u64])
     }
 }
 
-/// Clears the bits of other words, word by word.
+/// Clears the bits that are set in other words, word by word.
 fn clear_words(words: &mut [u64], others: &[u64])
     requires { length others.now ≡ length words.old }
     ensures { (s : ℕ) → HasBit words.new s ↔ (HasBit words.old s × (HasBit others.now s → ⊥)) }
@@ -238,7 +239,7 @@ fn clear_words(words: &mut [u64], others: &[u64])
     }
 }
 
-/// The least id from a number on whose bit is set.
+/// Returns the least id from a number on whose bit is set.
 fn next_bit(words: &[u64], from: u16) -> Option<u16>
     requires { length words.now ≤ 64 }
     ensures some { IfSome result (IsNextFrom (HasBit words.now) from) }
@@ -255,7 +256,8 @@ fn next_bit(words: &[u64], from: u16) -> Option<u16>
     None
 }
 
-/// The first word from a place on in which a bit is set, or the end of the words.
+/// Returns the place of the first word, from a place on, in which a bit is set, or the number of
+/// words if there is none.
 fn next_word(words: &[u64], from: usize) -> usize
     requires { from ≤ length words.now }
     ensures behind { from ≤ result }
@@ -272,7 +274,7 @@ fn next_word(words: &[u64], from: usize) -> usize
     at
 }
 
-/// The least id from a number on whose bit is set in the words and not in the others.
+/// Returns the least id from a number on whose bit is set in the words and not in the others.
 fn next_bit_beyond(words: &[u64], others: &[u64], from: u16) -> Option<u16>
     requires few { length words.now ≤ 64 }
     requires long { length others.now ≡ length words.now }
@@ -293,7 +295,7 @@ fn next_bit_beyond(words: &[u64], others: &[u64], from: u16) -> Option<u16>
     None
 }
 
-/// The ids whose bits are set.
+/// Returns the ids whose bits are set.
 fn ids_of(alloc: Global, words: &[u64]) -> Result<Vec<u16>, NoMem>
     requires { length words.now ≤ 64 }
     ensures { IfOk result (λ ids. Lists (HasBit words.now) ids.items) }
@@ -305,7 +307,7 @@ fn ids_of(alloc: Global, words: &[u64]) -> Result<Vec<u16>, NoMem>
     Ok(ids)
 }
 
-/// Lists the ids of a word, after those of the words before it.
+/// Appends the ids of a word to those of the words before it.
 fn push_ids(ids: &mut Vec<u16>, words: &[u64], at: usize) -> Result<(), NoMem>
     requires few { length words.now ≤ 64 }
     requires place { at < length words.now }
@@ -350,7 +352,7 @@ fn fill_word<T: Copy>(list: &mut [T], words: &[u64], at: usize, value: T)
     }
 }
 
-/// How many bits are set.
+/// Returns the number of bits that are set.
 fn count_of(words: &[u64]) -> u16
     requires { length words.now ≤ 64 }
     ensures { result ≡ count_by (λ flag. flag) (flags_of (64 * length words.now) words.now) }
@@ -362,7 +364,7 @@ fn count_of(words: &[u64]) -> u16
     count
 }
 
-/// Whether no bit is set.
+/// Returns true if no bit is set.
 fn are_zero(words: &[u64]) -> bool
     ensures { IsTrue result ↔ ((s : ℕ) → HasBit words.now s → ⊥) }
 {
@@ -374,7 +376,7 @@ fn are_zero(words: &[u64]) -> bool
     true
 }
 
-/// Whether the same bits are set.
+/// Returns true if the same bits are set in two lists of words.
 fn are_same(words: &[u64], others: &[u64]) -> bool
     requires { length others.now ≡ length words.now }
     ensures { IsTrue result ↔ ((s : ℕ) → has_bit words.now s ≡ has_bit others.now s) }

@@ -52,7 +52,7 @@ pub enum Holds {
     OneName,
 }
 
-// Files of a kind with those of services of both kinds behind them.
+// The files of a kind, followed by the files that services of both kinds have.
 macro_rules! with_atomic {
     ($($own:expr),*) => {
         [
@@ -75,7 +75,7 @@ const LONGRUN: [(&str, Holds); 9] = with_atomic![("run", Holds::Anything)];
 
 const BUNDLE: [(&str, Holds); 2] = [("contents", Holds::Names), ("contents.d", Holds::NameEach)];
 
-/// The files that count for a kind, beside `type`, in the order in which they are read.
+/// Returns the files that count for a kind, beside `type`, in the order in which they are read.
 pub fn files_of_kind(kind: Kind) -> &'static [(&'static str, Holds)]
     ensures { map (λ file. (file.0.now, file.1)) result.now ≡ files_of_kind kind }
 {

@@ -36,7 +36,7 @@ pub(crate) struct Pipes {
     pub(crate) pipeline_name: Option<Name>,
 }
 
-// What the files say that services of both kinds have.
+// The content of the files that services of both kinds have.
 #[derive(Drop)]
 pub(crate) struct Service {
     pub(crate) limits: Limits,
@@ -45,7 +45,7 @@ pub(crate) struct Service {
     pub(crate) pipes: Pipes,
 }
 
-// The limits of an entry.
+// Reads the limits of an entry.
 fn limits_at<T: Tree>(alloc: Global, tree: &mut T, entry: &str) -> Result<Limits, Flaw>
     ensures says { IfOk result (λ limits.
         (source : Source) → T.held tree.old ≡ Some source → SayLimits source entry.now limits) }
@@ -63,7 +63,7 @@ fn limits_at<T: Tree>(alloc: Global, tree: &mut T, entry: &str) -> Result<Limits
     Ok(Limits { up, down })
 }
 
-// The names in a file and in the folder beside it, each once, in byte order.
+// Reads the names in a file and in the folder beside it. Returns each once, in byte order.
 fn joined_at<T: Tree>(
     alloc: Global,
     tree: &mut T,
@@ -89,7 +89,7 @@ fn joined_at<T: Tree>(
     Ok(sets::names(alloc, &set)?)
 }
 
-// The longruns whose writing an entry reads, each once, in byte order.
+// Reads the names of the longruns whose output an entry reads. Returns each once, in byte order.
 fn consumer_for_at<T: Tree>(alloc: Global, tree: &mut T, entry: &str) -> Result<Vec<Name>, Flaw>
     ensures names { IfOk result (λ names.
         (source : Source) → T.held tree.old ≡ Some source →
@@ -109,7 +109,7 @@ fn consumer_for_at<T: Tree>(alloc: Global, tree: &mut T, entry: &str) -> Result<
     Ok(sets::names(alloc, &set)?)
 }
 
-// What an entry says of the pipeline that it is in.
+// Reads what an entry says of the pipeline that it is in.
 fn pipes_at<T: Tree>(alloc: Global, tree: &mut T, entry: &str) -> Result<Pipes, Flaw>
     ensures says { IfOk result (λ pipes.
         (source : Source) → T.held tree.old ≡ Some source → SayPipes source entry.now pipes) }
@@ -132,7 +132,7 @@ fn pipes_at<T: Tree>(alloc: Global, tree: &mut T, entry: &str) -> Result<Pipes, 
     })
 }
 
-// What an entry says that services of both kinds have.
+// Reads the files of an entry that services of both kinds have.
 fn service_at<T: Tree>(alloc: Global, tree: &mut T, entry: &str) -> Result<Service, Flaw>
     ensures says { IfOk result (λ service.
         (source : Source) → T.held tree.old ≡ Some source → SayService source entry.now service) }
@@ -157,7 +157,7 @@ fn service_at<T: Tree>(alloc: Global, tree: &mut T, entry: &str) -> Result<Servi
     })
 }
 
-// The definition of a service, from its texts and from what both kinds have.
+// Creates the definition of a service from its texts and from what both kinds have.
 fn definition_of(
     alloc: Global,
     name: Name,
@@ -208,7 +208,7 @@ fn definition_of(
     }
 }
 
-// The definition of a bundle.
+// Creates the definition of a bundle.
 fn bundle_of(alloc: Global, name: Name, contents: Vec<Name>) -> Definition
     ensures { meaning_of result ≡ record {
       name = name;
@@ -241,7 +241,7 @@ fn bundle_of(alloc: Global, name: Name, contents: Vec<Name>) -> Definition
     }
 }
 
-// The definition that the files of a oneshot give.
+// Reads the definition that the files of a oneshot give.
 fn oneshot_at<T: Tree>(alloc: Global, tree: &mut T, name: Name) -> Result<Definition, Flaw>
     ensures says { IfOk result (λ d. (source : Source) → T.held tree.old ≡ Some source →
         kind_of source name ≡ Some Oneshot → Means source name (meaning_of d)) }
@@ -261,7 +261,7 @@ fn oneshot_at<T: Tree>(alloc: Global, tree: &mut T, name: Name) -> Result<Defini
     Ok(definition_of(alloc, name, Kind::Oneshot, (Some(up), down), service))
 }
 
-// The definition that the files of a longrun give.
+// Reads the definition that the files of a longrun give.
 fn longrun_at<T: Tree>(alloc: Global, tree: &mut T, name: Name) -> Result<Definition, Flaw>
     ensures says { IfOk result (λ d. (source : Source) → T.held tree.old ≡ Some source →
         kind_of source name ≡ Some Longrun → Means source name (meaning_of d)) }
@@ -280,7 +280,7 @@ fn longrun_at<T: Tree>(alloc: Global, tree: &mut T, name: Name) -> Result<Defini
     Ok(definition_of(alloc, name, Kind::Longrun, (None, None), service))
 }
 
-// The definition that the files of a bundle give.
+// Reads the definition that the files of a bundle give.
 fn bundle_at<T: Tree>(alloc: Global, tree: &mut T, name: Name) -> Result<Definition, Flaw>
     ensures says { IfOk result (λ d. (source : Source) → T.held tree.old ≡ Some source →
         kind_of source name ≡ Some Bundle → Means source name (meaning_of d)) }
@@ -298,7 +298,7 @@ fn bundle_at<T: Tree>(alloc: Global, tree: &mut T, name: Name) -> Result<Definit
     Ok(bundle_of(alloc, name, contents))
 }
 
-// The definition that the files of an entry give.
+// Reads the definition that the files of an entry give.
 pub(crate) fn definition_at<T: Tree>(
     alloc: Global,
     tree: &mut T,

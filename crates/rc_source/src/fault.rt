@@ -46,8 +46,8 @@ impl<T: Drop> From<AllocFailed<T>> for Flaw {
     }
 }
 
-/// Why trees give no definitions, and at which entry; the name is empty
-/// where a tree could not be listed.
+/// Why trees give no definitions, and the name of the entry. The name is empty if a tree could not
+/// be listed.
 #[derive(Debug, Drop, Error)]
 pub enum SourceFault {
     Io(String),
@@ -67,7 +67,7 @@ impl SourceFault {
     ghost use Rattle.std.specs.Prelude.{◌≡◌};
     ghost use Rattle.rc_source.specs.Tests.{name_carried, flaw_of};
 
-    /// What is wrong.
+    /// Returns the flaw that the fault reports.
     pub fn flaw(&self) -> Flaw
         ensures { result ≡ flaw_of self.now }
     {
@@ -86,7 +86,7 @@ impl SourceFault {
         }
     }
 
-    /// The name of the entry; empty where a tree could not be listed, and as out of memory.
+    /// Returns the name of the entry. It is empty if a tree could not be listed or memory ran out.
     pub fn entry(&self) -> &str
         ensures { result.now ≡ name_carried self.now }
     {

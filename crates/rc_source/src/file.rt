@@ -19,7 +19,7 @@ use rc_names::{Kind, Name};
 use std::alloc::Global;
 use std::collections::BTreeSet;
 
-// The text of a file, if it is there.
+// Reads the text of a file, if the file is there.
 fn text_at<T: Tree>(
     alloc: Global,
     tree: &mut T,
@@ -46,7 +46,7 @@ fn text_at<T: Tree>(
     }
 }
 
-// The kind that the file `type` gives.
+// Reads the kind that the file `type` gives.
 pub(crate) fn kind_at<T: Tree>(alloc: Global, tree: &mut T, entry: &str) -> Result<Kind, Flaw>
     ensures kind { IfOk result (λ kind.
         (source : Source) → T.held tree.old ≡ Some source → kind_of source entry.now ≡ Some kind) }
@@ -64,7 +64,7 @@ pub(crate) fn kind_at<T: Tree>(alloc: Global, tree: &mut T, entry: &str) -> Resu
     }
 }
 
-// The text of a oneshot's file `up`.
+// Reads the text of a oneshot's file `up`.
 pub(crate) fn up_at<T: Tree>(alloc: Global, tree: &mut T, entry: &str) -> Result<String, Flaw>
     ensures text { IfOk result (λ text.
         (source : Source) → T.held tree.old ≡ Some source →
@@ -84,7 +84,7 @@ pub(crate) fn up_at<T: Tree>(alloc: Global, tree: &mut T, entry: &str) -> Result
     }
 }
 
-// The text of a oneshot's file `down`, if it is there.
+// Reads the text of a oneshot's file `down`, if the file is there.
 pub(crate) fn down_at<T: Tree>(
     alloc: Global,
     tree: &mut T,
@@ -106,7 +106,7 @@ pub(crate) fn down_at<T: Tree>(
     Ok(text)
 }
 
-// The limit in a file, 0 where it is missing.
+// Reads the limit in a file, or returns 0 if the file is missing.
 pub(crate) fn limit_at<T: Tree>(
     alloc: Global,
     tree: &mut T,
@@ -148,7 +148,7 @@ pub(crate) fn test_run<T: Tree>(alloc: Global, tree: &mut T, entry: &str) -> Res
     }
 }
 
-// Whether the file `flag-essential` is there.
+// Returns true if the file `flag-essential` is there.
 pub(crate) fn flag_at<T: Tree>(alloc: Global, tree: &mut T, entry: &str) -> Result<bool, Flaw>
     ensures flag { IfOk result (λ flag.
         (source : Source) → T.held tree.old ≡ Some source →
@@ -166,7 +166,7 @@ pub(crate) fn flag_at<T: Tree>(alloc: Global, tree: &mut T, entry: &str) -> Resu
     }
 }
 
-// The names in a file, in its order; none where it is missing.
+// Reads the names in a file, in its order, or returns none if the file is missing.
 fn names_at<T: Tree>(
     alloc: Global,
     tree: &mut T,
@@ -190,7 +190,7 @@ fn names_at<T: Tree>(
     }
 }
 
-// The one name in a file, if it is there and holds one.
+// Reads the one name in a file, if the file is there and holds one.
 pub(crate) fn one_name_at<T: Tree>(
     alloc: Global,
     tree: &mut T,

@@ -14,14 +14,14 @@ use rc_names::{Name, NoMem};
 use std::alloc::Global;
 use std::collections::BTreeSet;
 
-// Whether a name begins with a dot.
+// Returns true if a name begins with a dot.
 fn is_hidden(name: &str) -> bool
     ensures { result ≡ is_hidden name.now }
 {
     matches!(name.as_bytes().first(), Some(b'.'))
 }
 
-// The names that are not hidden, each once, in byte order.
+// Returns the names that are not hidden, each once, in byte order.
 pub(crate) fn visible(alloc: Global, names: &[String]) -> Result<Vec<String>, NoMem>
     ensures order { IfOk result (λ seen. IsInByteOrder (map string_bytes seen.items)) }
     ensures names { IfOk result (λ seen.
@@ -47,7 +47,7 @@ fn add_visible(alloc: Global, seen: &mut BTreeSet<String>, name: &str) -> Result
     Ok(())
 }
 
-// The names that texts are.
+// Reads texts as names.
 fn names_from(alloc: Global, texts: &[String]) -> Result<Vec<Name>, Flaw>
     ensures names { IfOk result (λ names. names.items ≡ map string_bytes texts.now) }
     ensures each { IfOk result (λ names. All IsName names.items) }
@@ -61,7 +61,7 @@ fn names_from(alloc: Global, texts: &[String]) -> Result<Vec<Name>, Flaw>
     Ok(names)
 }
 
-// The names that are not hidden, each once, in byte order, as names.
+// Reads the texts that are not hidden as names. Returns each once, in byte order.
 fn visible_names(alloc: Global, names: &[String]) -> Result<Vec<Name>, Flaw>
     ensures names { IfOk result (λ seen. (name : List ℕ) → Contains seen.items name
         ↔ (Contains (map string_bytes names.now) name × (is_hidden name ≡ false))) }
@@ -74,7 +74,7 @@ fn visible_names(alloc: Global, names: &[String]) -> Result<Vec<Name>, Flaw>
     names_from(alloc, &seen)
 }
 
-// The names in a folder, in byte order; none where it is missing.
+// Reads the names in a folder, in byte order, or returns none if the folder is missing.
 fn folder_names_at<T: Tree>(
     alloc: Global,
     tree: &mut T,

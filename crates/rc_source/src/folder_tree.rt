@@ -14,9 +14,9 @@ const MAX_READS: u64 = 16;
 
 /// A tree in a file system: the subdirectories of a directory. No contract can say what it holds.
 ///
-/// A service directory is listed once, and what is not in it is not asked for. Where it can't be
-/// listed, each of its files is. What stands at a path is asked once, and once more where that is a
-/// link.
+/// A service directory is listed once, and a file that is not in the listing is not looked up. If
+/// the directory can't be listed, each of its files is looked up. A look-up takes one call, or two
+/// if a link stands at the path.
 #[derive(Drop)]
 pub struct FolderTree<R: Files + AllocGlobal + Clone + Drop> {
     rt: R,
@@ -26,16 +26,16 @@ pub struct FolderTree<R: Files + AllocGlobal + Clone + Drop> {
     seen: Option<Seen>,
 }
 
-// What was seen in the service directory that was asked last.
+// What was seen in the service directory that was looked up last.
 #[derive(Drop)]
 struct Seen {
     service: String,
-    // Each with a byte 0 after it; none where the directory could not be listed.
+    // The names, each followed by a byte 0. None if the directory could not be listed in whole.
     names: Option<Vec<u8>>,
 }
 
 impl<R: Files + AllocGlobal + Clone + Drop> FolderTree<R> {
-    /// The tree of a directory, which keeps the runtime. Nothing is read yet.
+    /// Creates the tree of a directory, which keeps the runtime. Reads nothing yet.
     pub fn open(rt: R, alloc: Global, root: &str) -> Result<FolderTree<R>, NoMem> {
         let root = String::from_str(alloc, root)?;
         Ok(FolderTree {
@@ -47,12 +47,12 @@ impl<R: Files + AllocGlobal + Clone + Drop> FolderTree<R> {
         })
     }
 
-    /// Whether a link stands in the place of a service directory or a file that was read.
+    /// Returns true if a link was met in the place of a service directory or a file.
     pub fn has_links(&self) -> bool {
         self.has_links
     }
 
-    // The path of a file of a service directory.
+    // Returns the path of a file of a service directory.
     fn path(&self, alloc: Global, service: &str, file: &str) -> Result<String, NoMem> {
         path_in(alloc, self.root.as_str(), service, file)
     }
@@ -139,14 +139,14 @@ impl<R: Files + AllocGlobal + Clone + Drop> Tree for FolderTree<R> {
     }
 }
 
-// The path of a file of a service directory below a root.
+// Returns the path of a file of a service directory below a root.
 fn path_in(alloc: Global, root: &str, service: &str, file: &str) -> Result<String, NoMem> {
     let directory = path_to(alloc, root, service)?;
     path_to(alloc, directory.as_str(), file)
 }
 
-// Whether a service directory can be listed and has nothing of this name. It is
-// listed unless it was asked last.
+// Returns true if a service directory can be listed and has nothing of this name. Lists the
+// directory, unless it was looked up last.
 fn lacks<R: Files>(
     rt: &R,
     alloc: Global,
@@ -164,7 +164,7 @@ fn lacks<R: Files>(
     Ok(is_unseen(seen, file))
 }
 
-// Whether this is what was seen in a service directory.
+// Returns true if this is what was seen in the given service directory.
 fn is_of(seen: &Option<Seen>, service: &str) -> bool {
     match seen {
         Some(seen) => seen.service.as_str() == service,
@@ -172,8 +172,8 @@ fn is_of(seen: &Option<Seen>, service: &str) -> bool {
     }
 }
 
-// Whether a directory was listed and has nothing of this name, or of what
-// stands before its first slash.
+// Returns true if a directory was listed and has nothing of this name. Only the part of the name
+// before its first slash counts.
 fn is_unseen(seen: &Option<Seen>, file: &str) -> bool {
     let name = first_part(file).as_bytes();
     match seen {
@@ -187,8 +187,8 @@ fn is_unseen(seen: &Option<Seen>, file: &str) -> bool {
     }
 }
 
-// The names in a directory, each with a byte 0 after it; none where it can't be listed or holds
-// more of them than are worth a look.
+// Reads the names in a directory, each followed by a byte 0. Returns None if the directory can't be
+// listed or holds more names than are worth a look.
 fn names_seen<R: Files>(rt: &R, alloc: Global, path: &str) -> Result<Option<Vec<u8>>, NoMem> {
     let mut names = Vec::new(alloc);
     let Ok(mut directory) = rt.open_dir(path) else {
@@ -205,7 +205,7 @@ fn names_seen<R: Files>(rt: &R, alloc: Global, path: &str) -> Result<Option<Vec<
     Ok(None)
 }
 
-// What a device answered; a failure is counted.
+// Returns the answer of a device. Counts each failure except running out of memory.
 fn noted<X>(failures: &mut u64, answer: io::Result<X>) -> Result<X, TreeFault>
     ensures fault { IfErr result (IsCallFault failures.old failures.new) }
     ensures count { failures.old ≤ failures.new }
@@ -221,7 +221,7 @@ fn noted<X>(failures: &mut u64, answer: io::Result<X>) -> Result<X, TreeFault>
     }
 }
 
-// What is there: nothing where a path leads nowhere.
+// Returns the value of an answer, or None if the path leads nowhere.
 fn if_there<X>(answer: io::Result<X>) -> io::Result<Option<X>> {
     match answer {
         Ok(value) => Ok(Some(value)),
@@ -230,8 +230,8 @@ fn if_there<X>(answer: io::Result<X>) -> io::Result<Option<X>> {
     }
 }
 
-// Whether a path is refused because it leads nowhere: a name is missing, or a link leads through a
-// file or back to itself.
+// Returns true if a path is refused because it leads nowhere: a name is missing, or a link leads
+// through a file or back to itself.
 fn leads_nowhere(kind: ErrorKind) -> bool {
     matches!(
         kind,
@@ -239,7 +239,7 @@ fn leads_nowhere(kind: ErrorKind) -> bool {
     )
 }
 
-// What stands at a path, or where a link does, what it leads to; a link is noted.
+// Returns the metadata of a path. If a link stands there, notes that and follows the link.
 fn metadata_at<R: Files>(rt: &R, path: &str, has_links: &mut bool) -> io::Result<Metadata> {
     let found = rt.symlink_metadata(path)?;
     if !found.is_symlink() {
@@ -249,7 +249,7 @@ fn metadata_at<R: Files>(rt: &R, path: &str, has_links: &mut bool) -> io::Result
     rt.metadata(path)
 }
 
-// The names in a directory, if something is there. A file there is a fault.
+// Returns the names in a directory, or None if nothing is there. Fails if a file is there.
 fn names_at<R: Files + AllocGlobal + Clone + Drop>(
     rt: &R,
     alloc: Global,
@@ -261,7 +261,7 @@ fn names_at<R: Files + AllocGlobal + Clone + Drop>(
     }
 }
 
-// The names in a directory.
+// Returns the names in a directory.
 fn names_in<R: Files + AllocGlobal + Clone + Drop>(
     rt: &R,
     alloc: Global,
@@ -275,8 +275,8 @@ fn names_in<R: Files + AllocGlobal + Clone + Drop>(
     Ok(names)
 }
 
-// The names of the subdirectories of a directory, but for hidden
-// ones; a link to a directory is one.
+// Returns the names of the subdirectories of a directory, except hidden ones. A link to a directory
+// counts as one.
 fn subdirectories<R: Files + AllocGlobal + Clone + Drop>(
     rt: &R,
     alloc: Global,
@@ -292,7 +292,7 @@ fn subdirectories<R: Files + AllocGlobal + Clone + Drop>(
     Ok(names)
 }
 
-// Whether a name in a directory leads to a directory. A link that leads nowhere does not.
+// Returns true if a name in a directory leads to a directory. A link that leads nowhere does not.
 fn is_directory<R: Files>(
     rt: &R,
     alloc: Global,
@@ -307,8 +307,8 @@ fn is_directory<R: Files>(
     })
 }
 
-// The bytes at the beginning of a file, one more than it may have. What is no plain file is a
-// fault: to open a pipe would be to wait for whoever writes into it.
+// Reads the beginning of a file, up to one byte more than a file may have. Fails if the path is not
+// a plain file, since opening a pipe would wait for whoever writes into it.
 fn first_bytes<R: Files>(
     rt: &R,
     alloc: Global,

@@ -31,7 +31,7 @@ impl Model for Found {
 }
 
 impl Found {
-    // None yet.
+    // Creates an empty list of definitions.
     pub(crate) fn new(alloc: Global) -> Found
         ensures { result ≡ [] }
     {
@@ -42,14 +42,14 @@ impl Found {
         }
     }
 
-    // Whether a definition of this name is among them.
+    // Returns true if there is a definition of this name.
     pub(crate) fn has(&self, name: &str) -> bool
         ensures { IsTrue result ↔ Contains (meant self.now) name.now }
     {
         sets::has(&self.names, name)
     }
 
-    // Puts a definition of a new name after them.
+    // Appends a definition of a new name.
     pub(crate) fn add(&mut self, definition: Definition) -> Result<(), NoMem>
         requires meaning { IsMeaning (meaning_of definition) }
         requires free { Contains (meant self.old) definition.name → ⊥ }
@@ -68,7 +68,7 @@ impl Found {
         Ok(())
     }
 
-    // The definitions.
+    // Returns the definitions.
     pub(crate) fn into_definitions(self) -> Vec<Definition>
         ensures definitions { map meaning_of result.items ≡ self }
         ensures meanings { AreMeanings self }

@@ -8,13 +8,13 @@ ghost use Rattle.rc_source.specs.Texts.{without_newline, kind_of_word, names_in}
 ghost use Rattle.rc_source.specs.Meaning.{Meaning, Means, limit_in};
 ghost use Rattle.rc_source.specs.Tests.{Test, AllPass, StopsInTests, entries_of};
 
-/// Where all tests pass, a device alone keeps trees from being read.
+/// If all tests pass, only a device that fails keeps trees from being read.
 pub fn sound_sources_are_refused_by_devices_alone()
     ensures { (tests : List Test) (flaw : Flaw) (name : List ℕ) → AllPass tests →
         StopsInTests tests flaw name → flaw ≡ Io }
 {}
 
-/// What files are refused by is one flaw of one entry, whatever a device does.
+/// Files are refused for one flaw of one entry, whatever a device does.
 pub fn refusals_are_one()
     ensures { (tests : List Test) (a b : Flaw) (x y : List ℕ) → StopsInTests tests a x →
         StopsInTests tests b y → a ≢ Io → b ≢ Io → (a ≡ b) × (x ≡ y) }
@@ -26,7 +26,7 @@ pub fn meanings_are_one()
         Means source entry b → a ≡ b }
 {}
 
-/// What some texts say.
+/// States the meaning of some texts.
 pub fn texts_say_so()
     ensures kind { kind_of_word (without_newline (codes "oneshot" ++ 10 ∷ [])) ≡ Some Oneshot }
     ensures kind_once { kind_of_word (without_newline (codes "oneshot" ++ 10 ∷ 10 ∷ [])) ≡ None }

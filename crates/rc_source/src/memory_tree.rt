@@ -35,7 +35,7 @@ impl Model for MemoryTree {
 }
 
 impl MemoryTree {
-    /// A tree of no directories, which keeps the allocator.
+    /// Creates a tree without directories, which keeps the allocator.
     pub fn new(alloc: Global) -> MemoryTree
         ensures { result ≡ record { entries = []; files = [] } }
     {
@@ -56,8 +56,8 @@ impl MemoryTree {
         Ok(())
     }
 
-    /// Writes a file, in place of the one that is there, and makes its service
-    /// directory where that is missing.
+    /// Writes a file, in place of the one that is there. Makes its service directory if that is
+    /// missing.
     pub fn put(&mut self, service: &str, path: &str, bytes: &[u8]) -> Result<(), NoMem>
         ensures entries { OnOk result (Adds self.old.entries service.now self.new.entries) }
         ensures files { OnOk result (IsPutAt self.old.files
@@ -124,7 +124,7 @@ impl Tree for MemoryTree {
     }
 }
 
-// Puts a file in, and its directory where that is missing; both or none.
+// Adds a file, and its directory if that is missing. If this fails, neither is added.
 fn put_file(
     entries: &mut BTreeSet<String>,
     files: &mut BTreeMap<String, Vec<u8>>,
@@ -154,7 +154,7 @@ fn put_file(
     }
 }
 
-// The names that stand next in the paths after this beginning.
+// Returns the names that follow a beginning, in all paths that have it.
 fn next_names(
     alloc: Global,
     files: &BTreeMap<String, Vec<u8>>,
@@ -172,7 +172,7 @@ fn next_names(
     Ok(names)
 }
 
-// The name that stands next in a path after this beginning.
+// Returns the name that follows a beginning in a path, if the path has it.
 fn next_name_of<'a>(beginning: &str, path: &'a str) -> Option<&'a str>
     ensures { option_map (λ name. name.now) result ≡ next_name beginning.now path.now }
 {

@@ -21,8 +21,8 @@ use crate::{entry, folder, text};
 use rc_names::Name;
 use std::alloc::Global;
 
-/// The definitions of trees, in the order of the trees and in each in byte order of the names; or
-/// the first fault in the order of the tests.
+/// Reads the definitions of trees. They are in the order of the trees, and within a tree in byte
+/// order of their names. Fails with the first fault in the order of the tests.
 pub fn read_all<T: Tree>(alloc: Global, trees: &mut [T]) -> Result<Vec<Definition>, SourceFault>
     ensures definitions { IfOk result (λ definitions.
         AreMeanings (map meaning_of definitions.items)) }
@@ -47,7 +47,7 @@ pub fn read_all<T: Tree>(alloc: Global, trees: &mut [T]) -> Result<Vec<Definitio
     Ok(found.into_definitions())
 }
 
-// Reads the entries of a tree, after the definitions of those before it.
+// Reads the entries of a tree, and appends their definitions to those found before.
 fn read_source<T: Tree>(alloc: Global, tree: &mut T, found: &mut Found) -> Result<(), SourceFault>
     ensures meanings { OnOk result ((source : Source) → T.held tree.old ≡ Some source
         → (ms : List Meaning) × (found.new ≡ found.old ++ ms)
@@ -75,7 +75,7 @@ fn read_source<T: Tree>(alloc: Global, tree: &mut T, found: &mut Found) -> Resul
     Ok(())
 }
 
-// The names of the entries of a tree in the order of reading.
+// Reads the names of the entries of a tree, in the order in which they are read.
 fn entries_at<T: Tree>(alloc: Global, tree: &mut T) -> Result<Vec<String>, SourceFault>
     ensures names { IfOk result (λ names.
         (source : Source) → T.held tree.old ≡ Some source →
@@ -96,7 +96,7 @@ fn entries_at<T: Tree>(alloc: Global, tree: &mut T) -> Result<Vec<String>, Sourc
     Ok(folder::visible(alloc, &names)?)
 }
 
-// Reads an entry of a tree, after the definitions of those before it.
+// Reads an entry of a tree, and appends its definition to those found before.
 fn read_entry<T: Tree>(
     alloc: Global,
     tree: &mut T,
@@ -119,7 +119,7 @@ fn read_entry<T: Tree>(
     Ok(())
 }
 
-// The name that an entry is, unless a definition has it already.
+// Reads the name of an entry. Fails if it is not a name, or if a definition has it already.
 fn new_name(alloc: Global, entry: &str, found: &Found) -> Result<Name, Flaw>
     ensures name { IfOk result (λ name. (name ≡ entry.now) × IsName entry.now) }
     ensures free { OnOk result (Contains (meant found.now) entry.now → ⊥) }
@@ -134,7 +134,7 @@ fn new_name(alloc: Global, entry: &str, found: &Found) -> Result<Name, Flaw>
     Ok(name)
 }
 
-// The fault of an entry that has a flaw.
+// Returns the fault of an entry that has a flaw.
 fn fault_of(alloc: Global, flaw: Flaw, entry: &str) -> SourceFault
     ensures { flaw_of result ≢ Flaw.Memory →
         (flaw_of result ≡ flaw) × (name_carried result ≡ entry.now) }

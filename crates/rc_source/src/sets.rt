@@ -8,7 +8,7 @@ use rc_names::{Name, NoMem};
 use std::alloc::{AllocError, Global};
 use std::collections::BTreeSet;
 
-/// Puts a text in. True: it is new.
+/// Adds a text. Returns true if the text is new.
 pub fn add(alloc: Global, set: &mut BTreeSet<String>, text: &str) -> Result<bool, NoMem>
     ensures order { OnOk result (IsInByteOrder (map string_bytes set.new.keys)) }
     ensures adds { OnOk result (Adds (map string_bytes set.old.keys) text.now
@@ -21,14 +21,14 @@ pub fn add(alloc: Global, set: &mut BTreeSet<String>, text: &str) -> Result<bool
     Ok(set.insert(text)?)
 }
 
-/// Whether a text is in.
+/// Returns true if a text is in a set.
 pub fn has(set: &BTreeSet<String>, text: &str) -> bool
     ensures { IsTrue result ↔ Contains (map string_bytes set.now.keys) text.now }
 {
     set.contains(text)
 }
 
-/// The texts of a set, in byte order.
+/// Returns the texts of a set, in byte order.
 pub fn texts(alloc: Global, set: &BTreeSet<String>) -> Result<Vec<String>, NoMem>
     ensures texts { IfOk result (λ texts.
         map string_bytes texts.items ≡ map string_bytes set.now.keys) }
@@ -42,7 +42,7 @@ pub fn texts(alloc: Global, set: &BTreeSet<String>) -> Result<Vec<String>, NoMem
     Ok(texts)
 }
 
-/// Puts names in.
+/// Adds names to a set.
 pub fn add_names(alloc: Global, set: &mut BTreeSet<String>, names: &[Name]) -> Result<(), NoMem>
     ensures { OnOk result ((text : List ℕ) → Contains (map string_bytes set.new.keys) text
         ↔ (Contains (map string_bytes set.old.keys) text ⊎ Contains names.now text)) }
@@ -53,7 +53,7 @@ pub fn add_names(alloc: Global, set: &mut BTreeSet<String>, names: &[Name]) -> R
     Ok(())
 }
 
-/// The names that the texts of a set are. Each is a name already, so only memory can be short.
+/// Returns the texts of a set as names. Each text is a name already, so only memory can run out.
 pub fn names(alloc: Global, set: &BTreeSet<String>) -> Result<Vec<Name>, NoMem>
     ensures names { IfOk result (λ names. names.items ≡ map string_bytes set.now.keys) }
     ensures each { IfOk result (λ names. All IsName names.items) }

@@ -21,7 +21,7 @@ const MAX_DIGITS: usize = 10;
 // The largest limit.
 const MAX_LIMIT: u64 = 4294967295;
 
-// The text of bytes, if they are text.
+// Returns the text of bytes. Fails if they are not text.
 pub(crate) fn text_of(bytes: Vec<u8>) -> Result<String, Flaw>
     ensures text { IfOk result (λ text. (string_bytes text ≡ bytes.items) × IsText bytes.items) }
     ensures fault { IfErr result (λ flaw. (flaw ≡ Flaw.NotText) × (IsText bytes.items → ⊥)) }
@@ -35,14 +35,14 @@ pub(crate) fn text_of(bytes: Vec<u8>) -> Result<String, Flaw>
     }
 }
 
-// Whether bytes are text.
+// Returns true if bytes are text.
 fn is_text(bytes: &[u8]) -> bool
     ensures { IsTrue result ↔ IsText bytes.now }
 {
     std::str::from_utf8(bytes).is_ok() && !bytes.contains(&0)
 }
 
-// A text without the newline at its end.
+// Returns a text without the newline at its end.
 fn unended_of(text: &[u8]) -> &[u8]
     ensures { result.now ≡ without_newline text.now }
 {
@@ -57,7 +57,7 @@ fn unended_of(text: &[u8]) -> &[u8]
     }
 }
 
-// The kind that the text of a file `type` gives.
+// Returns the kind that the text of a file `type` gives.
 pub(crate) fn kind_in(text: &str) -> Result<Kind, Flaw>
     ensures kind { IfOk result (λ kind. kind_of_word (without_newline text.now) ≡ Some kind) }
     ensures fault { IfErr result (λ flaw.
@@ -69,7 +69,7 @@ pub(crate) fn kind_in(text: &str) -> Result<Kind, Flaw>
     }
 }
 
-// The kind that a word names.
+// Returns the kind that a word names.
 fn kind_named(word: &[u8]) -> Option<Kind>
     ensures { result ≡ kind_of_word word.now }
 {
@@ -84,7 +84,7 @@ fn kind_named(word: &[u8]) -> Option<Kind>
     }
 }
 
-// The limit that a text gives, in milliseconds.
+// Returns the limit that a text gives, in milliseconds.
 pub(crate) fn limit_in(text: &str) -> Result<u32, Flaw>
     ensures limit { IfOk result (λ limit.
         IsLimit (without_newline text.now) × (limit ≡ digits_value 10 (without_newline text.now))) }
@@ -101,7 +101,7 @@ pub(crate) fn limit_in(text: &str) -> Result<u32, Flaw>
     }
 }
 
-// Whether bytes are 1 to 10 digits.
+// Returns true if bytes are 1 to 10 digits.
 fn are_few_digits(digits: &[u8]) -> bool
     ensures { IsTrue result ↔ (0 < length digits.now) × (length digits.now ≤ 10)
         × All (λ digit. (48 ≤ digit) × (digit ≤ 57)) digits.now }
@@ -111,7 +111,7 @@ fn are_few_digits(digits: &[u8]) -> bool
         && digits.iter().all(|&digit| digit >= b'0' && digit <= b'9')
 }
 
-// The number that digits write, if it has at most 32 bits.
+// Returns the number that digits write, if it has at most 32 bits.
 #[tactic(auto, using(crate::proofs::Digits::too_large))]
 fn number_of(digits: &[u8]) -> Option<u32>
     requires { All (λ digit. (48 ≤ digit) × (digit ≤ 57)) digits.now }
@@ -128,7 +128,7 @@ fn number_of(digits: &[u8]) -> Option<u32>
     Some(number)
 }
 
-// A number with one more digit after it, if it has at most 32 bits.
+// Returns a number with one more digit after it, if the result has at most 32 bits.
 #[tactic(auto, using(crate::proofs::Digits::digit_is))]
 fn with_digit(number: u32, digit: u8) -> Option<u32>
     requires { (48 ≤ digit) × (digit ≤ 57) }
@@ -142,14 +142,14 @@ fn with_digit(number: u32, digit: u8) -> Option<u32>
     Some(more as u32)
 }
 
-// Whether a byte is a space or a tab.
+// Returns true if a byte is a space or a tab.
 fn is_blank(byte: u8) -> bool
     ensures { result ≡ ((byte == 32) || (byte == 9)) }
 {
     byte == b' ' || byte == b'\t'
 }
 
-// A line without the spaces and tabs at its start.
+// Returns a line without the spaces and tabs at its start.
 fn without_front(line: &[u8]) -> &[u8]
     ensures { result.now ≡ without_blanks line.now }
 {
@@ -160,7 +160,7 @@ fn without_front(line: &[u8]) -> &[u8]
     &line[start..]
 }
 
-// A line without the spaces and tabs at its end.
+// Returns a line without the spaces and tabs at its end.
 fn without_end(line: &[u8]) -> &[u8]
     ensures { result.now ≡ reverse (without_blanks (reverse line.now)) }
 {
@@ -171,7 +171,7 @@ fn without_end(line: &[u8]) -> &[u8]
     &line[..end]
 }
 
-// Whether a trimmed line gives a name.
+// Returns true if a trimmed line gives a name.
 fn is_counted(line: &[u8]) -> bool
     ensures { result ≡ counts line.now }
 {
@@ -181,7 +181,7 @@ fn is_counted(line: &[u8]) -> bool
     }
 }
 
-// The lines of a text.
+// Splits a text into its lines.
 fn lines_of(alloc: Global, text: &[u8]) -> Result<Vec<&[u8]>, NoMem>
     ensures { IfOk result (λ lines. map (λ line. line.now) lines.items
         ≡ slice_split (λ byte. byte == 10) text.now) }
@@ -189,7 +189,7 @@ fn lines_of(alloc: Global, text: &[u8]) -> Result<Vec<&[u8]>, NoMem>
     text.split(|byte| *byte == b'\n').collect(alloc)
 }
 
-// The names that a text gives, one a line, in its order.
+// Returns the names that a text gives, one a line, in its order.
 pub(crate) fn names_of(alloc: Global, text: &str) -> Result<Vec<Name>, Flaw>
     ensures names { IfOk result (λ names. names.items ≡ names_in text.now) }
     ensures each { OnOk result (All IsName (names_in text.now)) }
@@ -222,7 +222,7 @@ fn add_line(alloc: Global, names: &mut Vec<Name>, line: &[u8]) -> Result<(), Fla
     Ok(())
 }
 
-// The name that bytes are.
+// Reads bytes as a name.
 pub(crate) fn name_in(alloc: Global, bytes: &[u8]) -> Result<Name, Flaw>
     ensures name { IfOk result (λ name. (name ≡ bytes.now) × IsName bytes.now) }
     ensures fault { IfErr result (λ flaw.
@@ -238,7 +238,7 @@ pub(crate) fn name_in(alloc: Global, bytes: &[u8]) -> Result<Name, Flaw>
     }
 }
 
-// The one name that a text gives, if it gives one.
+// Returns the one name that a text gives, if it gives one. Fails if it gives more.
 pub(crate) fn one_name_in(alloc: Global, text: &str) -> Result<Option<Name>, Flaw>
     ensures name { IfOk result (λ name. name ≡ slice_get (names_in text.now) 0) }
     ensures is_name { IfOk result (λ name. IfSome name IsName) }

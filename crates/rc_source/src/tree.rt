@@ -21,7 +21,7 @@ pub enum TreeFault {
     Memory = 3,
 }
 
-// What is told of a fault.
+// Returns the message of a fault.
 fn told_of(fault: &TreeFault) -> &'static str {
     match fault {
         TreeFault::Io => "the device failed",
@@ -59,17 +59,17 @@ impl<T: Drop> From<AllocFailed<T>> for TreeFault {
 /// Service directories with their files. A call changes nothing but the
 /// count of the device's failures.
 pub trait Tree {
-    /// What it holds, where it tells.
+    /// Returns the entries and files that the tree holds, or None if the tree does not say.
     ghost held: { Self → Option Source } = { λ _. None };
 
-    /// How often its device has failed.
+    /// Returns the number of failures of the device.
     ghost failed: { Self → ℕ };
 
-    /// How often its device has failed; the count stays at its last value.
+    /// Returns the number of failures of the device. The count stays at its largest value.
     fn failures(&self) -> u64
         ensures { result ≡ failed self.now };
 
-    /// The names of the service directories, in any order.
+    /// Returns the names of the service directories, in any order.
     fn entries(&mut self, alloc: Global) -> Result<Vec<String>, TreeFault>
         ensures names { IfOk result (λ names. (source : Source) → held self.old ≡ Some source
             → IsSource source × AreEntries source (map string_bytes names.items)) }
@@ -78,7 +78,7 @@ pub trait Tree {
         ensures count { failed self.old ≤ failed self.new }
         ensures quiet { OnOk result (failed self.new ≡ failed self.old) };
 
-    /// The names in a folder of a service directory, in any order, if the folder is there.
+    /// Returns the names in a folder of a service directory, in any order, if the folder is there.
     fn listing(
         &mut self,
         alloc: Global,
@@ -93,7 +93,7 @@ pub trait Tree {
         ensures count { failed self.old ≤ failed self.new }
         ensures quiet { OnOk result (failed self.new ≡ failed self.old) };
 
-    /// The bytes of a file of a service directory, if it is there.
+    /// Returns the bytes of a file of a service directory, if the file is there.
     fn bytes(
         &mut self,
         alloc: Global,
@@ -109,7 +109,7 @@ pub trait Tree {
         ensures count { failed self.old ≤ failed self.new }
         ensures quiet { OnOk result (failed self.new ≡ failed self.old) };
 
-    /// Whether a file of a service directory is there.
+    /// Returns true if a file of a service directory is there.
     fn has(&mut self, alloc: Global, service: &str, file: &str) -> Result<bool, TreeFault>
         ensures there { IfOk result (λ there. (source : Source) → held self.old ≡ Some source
             → (IsTrue there ↔ IsSome (file_at source service.now file.now))) }
@@ -119,7 +119,7 @@ pub trait Tree {
         ensures quiet { OnOk result (failed self.new ≡ failed self.old) };
 }
 
-// The path of what has this name in a directory.
+// Returns the path of a name in a directory.
 pub(crate) fn path_to(alloc: Global, directory: &str, name: &str) -> Result<String, NoMem>
     ensures { IfOk result (λ path. string_bytes path ≡ path_of directory.now name.now) }
 {
@@ -129,7 +129,7 @@ pub(crate) fn path_to(alloc: Global, directory: &str, name: &str) -> Result<Stri
     Ok(path)
 }
 
-// What stands before the first slash.
+// Returns the part of a path before its first slash, or all of it if there is no slash.
 pub(crate) fn first_part(path: &str) -> &str
     ensures { result.now ≡ before_first (λ byte. byte == 47) path.now }
 {

@@ -22,7 +22,7 @@ pub(crate) enum Access {
 /// How often a file is opened or made while another program makes or removes it.
 const MOST_TRIES: u32 = 100;
 
-/// The path of the file beside a session's file that has this ending.
+/// Returns the path of the file beside a session's file that has the given ending.
 pub(crate) fn path_beside(rt: &HostRuntime, path: &str, ending: &str) -> io::Result<String> {
     let place = place(rt, path)?;
     let beside = beside(rt, &place, ending);
@@ -30,18 +30,20 @@ pub(crate) fn path_beside(rt: &HostRuntime, path: &str, ending: &str) -> io::Res
     beside
 }
 
-/// Opens the file beside a session's file that has this ending, to read and append, and makes it
-/// where it is missing.
+/// Opens the file beside a session's file that has the given ending, to read and append. Creates it
+/// if it is missing.
 pub(crate) fn open_to_append(rt: &HostRuntime, path: &str, ending: &str) -> io::Result<File> {
     open_beside(rt, path, ending, Access::Append)
 }
 
-/// The same, to read and write at any place.
+/// Opens the file beside a session's file that has the given ending, to read and write at any
+/// place. Creates it if it is missing.
 pub(crate) fn open_to_write(rt: &HostRuntime, path: &str, ending: &str) -> io::Result<File> {
     open_beside(rt, path, ending, Access::Write)
 }
 
-/// Opens the file beside a session's file that has this ending, and makes it where it is missing.
+/// Opens the file beside a session's file that has the given ending, and creates it if it is
+/// missing.
 fn open_beside(rt: &HostRuntime, path: &str, ending: &str, access: Access) -> io::Result<File> {
     let beside = path_beside(rt, path, ending)?;
     let opened = open_own(rt, beside.as_str(), access);
@@ -49,8 +51,8 @@ fn open_beside(rt: &HostRuntime, path: &str, ending: &str, access: Access) -> io
     opened
 }
 
-/// Opens a file of this user's, and makes it where it is missing. It is no stream of the program,
-/// also where one of those was closed: its number is above theirs.
+/// Opens a file of this user, and creates it if it is missing. The file is no stream of the
+/// program, even if one of those was closed: its number is above theirs.
 pub(crate) fn open_own(rt: &HostRuntime, path: &str, access: Access) -> io::Result<File> {
     for _ in 0..MOST_TRIES {
         match open_or_make(rt, path, access) {
@@ -62,7 +64,7 @@ pub(crate) fn open_own(rt: &HostRuntime, path: &str, access: Access) -> io::Resu
     open_or_make(rt, path, access)
 }
 
-/// Opens a file, or makes it where it is missing.
+/// Opens a file, or creates it if it is missing.
 fn open_or_make(rt: &HostRuntime, path: &str, access: Access) -> io::Result<File> {
     match open_there(rt, path, access) {
         Err(error) if error.kind() == ErrorKind::NotFound => make(rt, path, access),
@@ -70,13 +72,13 @@ fn open_or_make(rt: &HostRuntime, path: &str, access: Access) -> io::Result<File
     }
 }
 
-/// Whether an error comes of what another program does at the same moment.
+/// Returns true if an error comes from what another program does at the same moment.
 fn is_passing(kind: ErrorKind) -> bool {
     matches!(kind, ErrorKind::AlreadyExists | ErrorKind::NotFound)
 }
 
-/// Opens a file of this user's that is there. A pipe is not waited for, since it is opened to read
-/// as well.
+/// Opens an existing file of this user. Does not wait for a pipe, since it is opened to read as
+/// well.
 pub(crate) fn open_there(rt: &HostRuntime, path: &str, access: Access) -> io::Result<File> {
     check_plain(rt, path)?;
     let mut options = options_for(access);
@@ -90,14 +92,14 @@ pub(crate) fn open_there(rt: &HostRuntime, path: &str, access: Access) -> io::Re
     }
 }
 
-/// Makes a file that is not there yet.
+/// Creates a file. Fails if something already stands there.
 fn make(rt: &HostRuntime, path: &str, access: Access) -> io::Result<File> {
     let mut options = options_for(access);
     options.create_new(true).mode(RIGHTS);
     above_streams(options.open(rt, path)?)
 }
 
-/// How a file is opened.
+/// Returns the options with which a file is opened.
 fn options_for(access: Access) -> OpenOptions {
     let mut options = File::options();
     match access {
@@ -107,7 +109,7 @@ fn options_for(access: Access) -> OpenOptions {
     options
 }
 
-/// The same file by a number that is none of the program's streams.
+/// Returns the same open file by a number that is none of the program's streams.
 pub(crate) fn above_streams(opened: File) -> io::Result<File> {
     let file = opened.try_clone();
     drop(opened);
@@ -138,12 +140,12 @@ pub(crate) fn check_there(rt: &HostRuntime, path: &str, opened: &Metadata) -> io
     }
 }
 
-/// Whether two accounts are of one file.
+/// Returns true if two metadata are of one file.
 fn is_same(one: &Metadata, other: &Metadata) -> bool {
     one.dev() == other.dev() && one.ino() == other.ino()
 }
 
-/// Whether an open file still stands at a path.
+/// Returns true if an open file still stands at a path.
 pub(crate) fn stands_at(rt: &HostRuntime, path: &str, file: &File) -> bool {
     match (file.metadata(), fs::symlink_metadata(rt, path)) {
         (Ok(opened), Ok(found)) => is_same(&opened, &found),
@@ -151,8 +153,8 @@ pub(crate) fn stands_at(rt: &HostRuntime, path: &str, file: &File) -> bool {
     }
 }
 
-/// Fails where others than the user who runs the program, and root, may make files in a directory:
-/// who may do that could put a file there that the program takes for its own.
+/// Fails if others than root and the user who runs the program may create files in a directory:
+/// they could put a file there that the program takes for its own.
 pub(crate) fn check_folder(rt: &HostRuntime, folder: &str) -> io::Result<()> {
     let found = fs::metadata(rt, folder)?;
     let user = libc::geteuid();
@@ -167,12 +169,13 @@ pub(crate) fn check_folder(rt: &HostRuntime, folder: &str) -> io::Result<()> {
     }
 }
 
-/// Whether a group is that of the user who runs the program alone: it has the user's own number.
+/// Returns true if a group is that of the user who runs the program alone: it has the user's own
+/// number.
 fn is_own_group(group: u32) -> bool {
     group == libc::getegid() && group == libc::geteuid()
 }
 
-/// Why a file is refused.
+/// Creates the error for a file that is refused.
 pub(crate) fn refused(why: &str) -> io::Error {
     io::Error::new(ErrorKind::InvalidInput, why)
 }

@@ -5,10 +5,10 @@ use crate::whole_file;
 use std::fs::File;
 use std::io::{self, ErrorKind};
 
-/// What stands behind the path of a session's file in that of its log.
+/// The ending that follows the path of a session's file in the path of its log.
 const ENDING: &str = ".log";
 
-/// Opens the log to append. None: there is none.
+/// Opens the log to append to it. Returns none if there is no log.
 pub fn open(rt: &HostRuntime, path: &str) -> io::Result<Option<File>> {
     let beside = path_beside(rt, path, ENDING)?;
     let opened = open_there(rt, beside.as_str(), Access::Append);
@@ -20,7 +20,7 @@ pub fn open(rt: &HostRuntime, path: &str) -> io::Result<Option<File>> {
     }
 }
 
-/// The bytes of the log. None: there is none.
+/// Reads the bytes of the log. Returns none if there is no log.
 pub fn read(rt: &HostRuntime, path: &str) -> io::Result<Option<Vec<u8>>> {
     let beside = path_beside(rt, path, ENDING)?;
     let read = whole_file::read_optional(rt, Some(beside.as_str()));

@@ -1,4 +1,4 @@
-//! How a command ends: its answer written, or why there is none told.
+//! How a command ends: it writes its answer, or reports why there is none.
 ghost use Rattle.std.specs.Prelude.{◌≡◌, ◌⊎◌};
 ghost use Rattle.std.specs.Io.KnownBytes.{Appends};
 ghost use Rattle.rc_streams.specs.Input.{AppendsFront, FailsWith, failure_text, fault_line};
@@ -18,7 +18,7 @@ pub const WRONG_LINE: u8 = 100;
 /// A device failed, the input is too long, or memory ran out.
 pub const FAILED: u8 = 111;
 
-/// Tells a failure, and answers the status.
+/// Prints a failure, and returns the exit status.
 pub fn fail<F: Write>(faults: &mut F, failure: Failure) -> u8
     ensures status { result ≡ 111 }
     ensures told { AppendsFront (F.contents faults.old) (F.contents faults.new)
@@ -28,7 +28,7 @@ pub fn fail<F: Write>(faults: &mut F, failure: Failure) -> u8
     FAILED
 }
 
-/// Writes the answer whole, or tells that it could not, and answers the status.
+/// Writes the whole answer, or prints that it could not, and returns the exit status.
 pub fn write_answer<W: Write, F: Write>(writer: &mut Noted<W>, faults: &mut F, text: &[u8]) -> u8
     ensures statuses { (result ≡ 0) ⊎ (result ≡ 111) }
     ensures done { result ≡ 0 → Appends (W.contents (inner_of writer.old))

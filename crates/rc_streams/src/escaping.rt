@@ -4,7 +4,7 @@
 use std::fmt::{self, Display, Formatter, Write as _};
 use std::io::{self, Write};
 
-/// The first byte of the control characters of two bytes, and the bytes that may stand behind it.
+/// The first byte of the control characters of two bytes, and the greatest byte that may follow it.
 const LEAD: u8 = 0xC2;
 
 const LAST: u8 = 0x9F;
@@ -47,7 +47,7 @@ pub struct Escaped<W> {
 }
 
 impl<W> Escaped<W> {
-    /// A writer of texts of several lines.
+    /// Creates a writer of texts of several lines.
     pub fn of_text(inner: W) -> Escaped<W> {
         Escaped {
             inner,
@@ -55,7 +55,7 @@ impl<W> Escaped<W> {
         }
     }
 
-    /// A writer of lines, whose ends are written alone.
+    /// Creates a writer of lines, whose ends are written alone.
     pub fn of_lines(inner: W) -> Escaped<W> {
         Escaped {
             inner,
@@ -84,7 +84,8 @@ impl<W: Write> Write for Escaped<W> {
     }
 }
 
-/// How many bytes stand before the first control character, of which an end of a line may be none.
+/// Returns the number of bytes before the first control character. If `has_lines` is set, an end of
+/// a line is none.
 fn plain_in(bytes: &[u8], has_lines: bool) -> usize {
     for place in 0..bytes.len() {
         if control_of(&bytes[place..], has_lines).is_some() {
@@ -94,8 +95,8 @@ fn plain_in(bytes: &[u8], has_lines: bool) -> usize {
     bytes.len()
 }
 
-/// The control character with which bytes begin, and how many bytes it has. An end of a line may be
-/// none.
+/// Returns the control character that the bytes begin with, and its length. If `has_lines` is set,
+/// an end of a line is none.
 fn control_of(bytes: &[u8], has_lines: bool) -> Option<(char, usize)> {
     match (bytes.first(), bytes.get(1)) {
         (Some(b'\n'), _) if has_lines => None,

@@ -17,7 +17,7 @@ const CHILD: u64 = 1 << 16;
 
 const SIZE: u64 = 1 << 24;
 
-/// What getrlimit is asked for the most bytes that a file may get.
+/// The argument for which getrlimit returns the most bytes that a file may have.
 const FILE_SIZE: i32 = 1;
 
 /// Why a program can't run scripts as it was started.
@@ -29,14 +29,15 @@ pub enum Unfit {
     SizeLimited,
 }
 
-/// Why this program can't run scripts. None: it can. Where the system gives no account of it,
-/// ignored signals are not seen.
+/// Returns the reason why this program cannot run scripts, or none if it can. If the system gives
+/// no account of the program, ignored signals are not seen.
 pub fn unfit_for_scripts(rt: &HostRuntime) -> Option<Unfit> {
     let ignored = ignored_signals(rt);
     unfit_by(ignored & CHILD != 0, is_size_limited(), ignored & SIZE != 0)
 }
 
-/// The same, of what was seen.
+/// Returns the reason why a program cannot run scripts, by its ignored signals and its limit on the
+/// size of files.
 fn unfit_by(ignores_child: bool, is_limited: bool, ignores_size: bool) -> Option<Unfit>
     ensures { result ≡ unfit_of ignores_child is_limited ignores_size }
 {
@@ -49,7 +50,7 @@ fn unfit_by(ignores_child: bool, is_limited: bool, ignores_size: bool) -> Option
     None
 }
 
-/// The signals that this program ignores, 0 where that can't be seen.
+/// Returns the signals that this program ignores, or 0 if they cannot be seen.
 fn ignored_signals(rt: &HostRuntime) -> u64 {
     match File::open(rt, STATUS) {
         Ok(status) => {
@@ -61,14 +62,14 @@ fn ignored_signals(rt: &HostRuntime) -> u64 {
     }
 }
 
-/// The ignored signals in the file of the system's account.
+/// Reads the ignored signals from the file of the system's account.
 fn ignored_in(status: &File) -> Option<u64> {
     let mut buffer = [0; 4096];
     let count = status.read_at(&mut buffer, 0).ok()?;
     ignored_of(&buffer[..count.min(4096)])
 }
 
-/// The ignored signals in the text of the system's account.
+/// Parses the ignored signals from the text of the system's account.
 fn ignored_of(account: &[u8]) -> Option<u64> {
     for line in account.split(|byte| *byte == b'\n') {
         if let Some(number) = line.strip_prefix(IGNORED) {
@@ -79,7 +80,7 @@ fn ignored_of(account: &[u8]) -> Option<u64> {
     None
 }
 
-/// Whether files that the program writes are limited in size.
+/// Returns true if the files that the program writes are limited in size.
 fn is_size_limited() -> bool {
     let mut limit = rlimit {
         rlim_cur: u64::MAX,

@@ -1,4 +1,4 @@
-//! A whole input under a bound, and how a failure is told.
+//! A whole input under a bound, and how a failure is reported.
 ghost use Rattle.std.specs.Prelude.{◌≡◌, ◌⊎◌, ◌+◌, ◌<◌, ◌≤◌, Err, IfOk, IfErr, IfSome, OnOk};
 ghost use Rattle.std.specs.Prelude.{vec_len};
 ghost use Rattle.std.specs.Io.KnownBytes.{Appends, IsAtEnd};
@@ -16,7 +16,7 @@ use thiserror::Error;
 /// The bytes that an input may have at most.
 pub const MAX_INPUT: usize = 16_777_216;
 
-/// The bytes that one read asks for at most.
+/// The most bytes that one read asks for.
 const MAX_PIECE: usize = 8_192;
 
 /// Why a command ends without an answer although nothing is refused.
@@ -44,7 +44,7 @@ impl From<AllocError> for Failure {
     }
 }
 
-/// A failure in words.
+/// Returns the word for a failure.
 pub fn failure_word(fault: Failure) -> &'static [u8]
     ensures { result.now ≡ failure_text fault }
 {
@@ -56,7 +56,7 @@ pub fn failure_word(fault: Failure) -> &'static [u8]
     }
 }
 
-/// Reads all there is, up to the read that gives no byte.
+/// Reads the whole input, up to the read that returns no byte.
 pub fn read_all<R: Read>(alloc: Global, reader: &mut Noted<R>) -> Result<Vec<u8>, Failure>
     ensures whole { IfOk result (λ bytes.
         IfSome (R.remaining (inner_of reader.old)) (λ input. bytes.items ≡ input)) }
@@ -65,10 +65,10 @@ pub fn read_all<R: Read>(alloc: Global, reader: &mut Noted<R>) -> Result<Vec<u8>
     ensures fault { IfErr result (IsCause (R.remaining (inner_of reader.old))
         (HasFailed reader.new) ⊥) }
 
-    // A read that has failed is told as that.
+    // A failed read is reported as such.
     ensures told { HasFailed reader.new → HasFailed reader.old ⊎ (result ≡ Err Failure.Read) }
 
-    // Whatever the result, one byte past the bound is the last that is taken.
+    // Whatever the result, at most one byte past the bound is taken.
     ensures taken { ConsumesAtMost (R.remaining (inner_of reader.old))
         (R.remaining (inner_of reader.new)) (MAX_INPUT + 1) }
 {
@@ -109,7 +109,7 @@ fn take_piece<R: Read>(
     Ok(count)
 }
 
-/// Writes the line `undorc: WHAT`. A line that cannot be written is let go.
+/// Writes the line `undorc: WHAT`. Drops a line that cannot be written.
 pub fn tell<F: Write>(faults: &mut F, what: &[u8])
     ensures { AppendsFront (F.contents faults.old) (F.contents faults.new) (fault_line what.now) }
 {
@@ -129,8 +129,8 @@ fn write_fault<F: Write>(faults: &mut F, what: &[u8]) -> io::Result<()>
     faults.flush()
 }
 
-/// Writes all of `bytes`. A write that fails or takes nothing is not tried again, nor is one that a
-/// signal interrupts.
+/// Writes all of `bytes`. Does not repeat a write that fails, takes nothing or is interrupted by a
+/// signal.
 fn write_every<W: Write>(writer: &mut W, bytes: &[u8]) -> io::Result<()>
     ensures whole { OnOk result (Appends (W.contents writer.old) (W.contents writer.new)
         bytes.now) }

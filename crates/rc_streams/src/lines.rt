@@ -15,7 +15,7 @@ use std::marker::Model;
 /// The bytes that a line may have at most, without its newline.
 pub const MAX_LINE: usize = 65_536;
 
-/// The bytes that one read asks for at most.
+/// The most bytes that one read asks for.
 const MAX_PIECE: usize = 8_192;
 
 /// The lines of an input, as they come. A read is made only where no whole line is held.
@@ -43,7 +43,7 @@ impl Model for Lines {
 }
 
 impl Lines {
-    /// The lines of an input of which nothing was read yet.
+    /// Creates the lines of an input of which nothing was read yet.
     pub fn new(alloc: Global) -> Lines
         ensures { result ≡ fresh }
     {
@@ -54,8 +54,8 @@ impl Lines {
         }
     }
 
-    /// The next line, without its newline, and whether it ends in one. A line that does not is
-    /// the last. None: there is no more.
+    /// Returns the next line without its newline, and whether it ends in one. A line that does not
+    /// is the last. Returns none if there is no more.
     pub fn next<R: Read>(
         &mut self,
         alloc: Global,
@@ -78,8 +78,8 @@ impl Lines {
         ensures within { self.new.taken ≤ 16777217 }
         ensures sound { OnOk result (HasFailed reader.new → ⊥) }
 
-        // A read that has failed is told as that, so none is made before a whole
-        // line that was read is handed out.
+        // A failed read is reported as such, so no read is made before a whole line that was read
+        // is returned.
         ensures told { HasFailed reader.new → result ≡ Err Failure.Read }
     {
         let mut line = Vec::new(alloc);
@@ -97,7 +97,8 @@ impl Lines {
         }
     }
 
-    /// Moves what is held to the end of a line, up to the newline. True: the line is whole.
+    /// Moves the held bytes up to the newline to the end of `line`. Returns true if the line is
+    /// whole.
     fn take_line(&mut self, line: &mut Vec<u8>) -> Result<bool, Failure>
         requires { IsOneLine line.old.items }
         ensures moved { IfOk result (λ whole.
@@ -123,7 +124,7 @@ impl Lines {
         }
     }
 
-    /// Reads the next piece, and tells its length: 0 at the end of the input.
+    /// Reads the next piece, and returns its length, which is 0 at the end of the input.
     fn refill<R: Read>(&mut self, reader: &mut Noted<R>) -> Result<usize, Failure>
         requires { HasFailed reader.old → ⊥ }
         ensures read { IfOk result (Refills (R.remaining (inner_of reader.old))
@@ -151,7 +152,7 @@ impl Lines {
     }
 }
 
-/// Appends a part to a line, where the line stays within its bound.
+/// Appends a part to a line. Fails if the line would exceed its bound.
 fn add_part(line: &mut Vec<u8>, part: &[u8]) -> Result<(), Failure>
     ensures added { OnOk result (line.new.items ≡ line.old.items ++ part.now) }
     ensures short { OnOk result (length line.new.items ≤ MAX_LINE) }

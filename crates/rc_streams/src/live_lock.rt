@@ -1,6 +1,6 @@
-//! The lock of the file in which a session is kept, so that one program at a time goes on with it.
-//! It is a lock on a file beside it, which is made where it is missing, and stays. Its owner alone
-//! may open it, and it names the program that locked it last.
+//! The lock of the file in which a session is kept, so that one program at a time continues the
+//! session. The lock is on a file beside that file, which is created if it is missing, and stays.
+//! Only its owner may open it. It names the program that locked it last.
 
 use crate::beside_file::{Access, RIGHTS, check_folder, open_own, refused, stands_at};
 use crate::messages::{MESSAGE, Messages};
@@ -16,26 +16,26 @@ use std::time::Duration;
 use std::{process, thread};
 use thiserror::Error;
 
-/// What stands behind the path of a session's file in that of its lock.
+/// The ending that follows the path of a session's file in the path of its lock.
 const ENDING: &str = ".lock";
 
 /// How long a program that waits for a lock pauses before it tries again, in milliseconds.
 const PAUSE: u64 = 10;
 
-/// After so many pauses it tells what it waits for.
+/// The number of pauses after which it reports what it waits for.
 const ROUNDS_BEFORE_WORD: u64 = 100;
 
 /// How often the file of a lock may be replaced by another while it is taken.
 const MOST_FILES: u32 = 100;
 
-/// How often one who looks for the program that has a lock pauses until that has signed it.
+/// How often a program that looks for the owner of a lock pauses until the owner has signed it.
 const ROUNDS_BEFORE_OWNER: u64 = 100;
 
-/// What stands behind the name of a program that serves the lines of an input.
+/// The text after the name of a program that serves the lines of an input.
 const LINES: &str = " lines";
 
-/// How often those who only look may be in the way of one who takes a lock, and how long each is
-/// given, in milliseconds.
+/// How often programs that only look may delay one that takes a lock, and how long it waits for
+/// each, in milliseconds.
 const MOST_LOOKS: u32 = 1_000;
 
 const LOOK: u64 = 1;
@@ -61,7 +61,7 @@ pub struct Owner {
 }
 
 impl Owner {
-    /// This program.
+    /// Returns the name of this program.
     pub(crate) fn own(rt: &HostRuntime, is_of_lines: bool) -> Owner {
         Owner {
             id: process::id(rt.process()),
@@ -70,7 +70,7 @@ impl Owner {
         }
     }
 
-    /// Whether it goes on.
+    /// Returns true if the program still runs.
     fn is_alive(&self, rt: &HostRuntime) -> bool {
         start_of(rt, self.id) == Some(self.started)
     }
@@ -84,9 +84,9 @@ pub struct LiveLock {
 }
 
 impl LiveLock {
-    /// The lock of a program that goes on with the session of this file, which no other may have,
-    /// and that serves the lines of an input or not. None: a device or a folder stands there, in
-    /// which no session is kept.
+    /// Takes the lock of the session in the file at `path` for this program alone. `is_of_lines`
+    /// says whether this program serves the lines of an input. Returns none if a device or a
+    /// directory stands there, in which no session is kept.
     pub fn take(
         rt: &HostRuntime,
         path: &str,
@@ -106,7 +106,7 @@ impl LiveLock {
     }
 }
 
-/// The lock of the session at a place, in whose directory nobody else may make files.
+/// Takes the lock of the session at a place. Fails if others may create files in its directory.
 fn take_at(
     rt: &HostRuntime,
     place: &PathBuf,
@@ -121,8 +121,9 @@ fn take_at(
     taken
 }
 
-/// The lock on the file at a path. Where it was replaced by another file meanwhile, as one that a
-/// cleaner of the directory has removed, that one is locked.
+/// Takes the lock on the file at `beside`. If another file has replaced it meanwhile, for example
+/// because a cleaner of the directory removed it, locks that one. Fails if that happens again and
+/// again.
 fn take_file(
     rt: &HostRuntime,
     beside: &str,
@@ -150,8 +151,8 @@ fn take_file(
     Err(LockFault::Failed(refused("is replaced by another again and again")))
 }
 
-/// Whether a program goes on with the session of this file. Where none does, the lock is shared
-/// for a moment, which one who takes it waits for.
+/// Returns true if a program continues the session of a file. If none does, shares the lock for a
+/// moment. A program that takes the lock waits for that.
 pub fn is_held(rt: &HostRuntime, path: &str) -> io::Result<bool> {
     let place = place(rt, path)?;
     let beside = beside(rt, &place, ENDING);
@@ -162,9 +163,9 @@ pub fn is_held(rt: &HostRuntime, path: &str) -> io::Result<bool> {
     Ok(held?.is_held)
 }
 
-/// The program that goes on with the session of this file. None: none does. One that has the lock
-/// and has not signed it yet is waited for. Where the one that signed it last can't be seen, as
-/// from another container, it is taken for that one.
+/// Returns the program that continues the session of a file, or none if no program does. Waits for
+/// one that has the lock and has not signed it yet. If the program that signed last cannot be seen,
+/// for example because it is in another container, returns that one.
 pub(crate) fn owner_at(rt: &HostRuntime, path: &str) -> io::Result<Option<Owner>> {
     let place = place(rt, path)?;
     let beside = beside(rt, &place, ENDING);
@@ -175,7 +176,8 @@ pub(crate) fn owner_at(rt: &HostRuntime, path: &str) -> io::Result<Option<Owner>
     owner
 }
 
-/// The same by the path of the lock.
+/// Returns the program that has the lock at the path of a lock, or none if no program has it. Fails
+/// if that program does not sign the lock in time.
 fn owner_in(rt: &HostRuntime, beside: &str) -> io::Result<Option<Owner>> {
     let mut signed = None;
     for _ in 0..ROUNDS_BEFORE_OWNER {
@@ -204,7 +206,7 @@ struct Look {
     owner: Option<Owner>,
 }
 
-/// Looks at the file of a lock. One that is missing is not locked.
+/// Looks at the file of a lock. A missing file is not locked.
 fn look_at(rt: &HostRuntime, path: &str) -> io::Result<Look> {
     check_plain(rt, path)?;
     let file = match File::open(rt, path) {
@@ -229,8 +231,9 @@ fn look_at(rt: &HostRuntime, path: &str) -> io::Result<Look> {
     }
 }
 
-/// Locks a file. Those who only look share it for a moment, and are no other program that goes on
-/// with the session: who has it alone cannot be shared with.
+/// Locks a file, or fails with `Busy` if another program has the lock. Programs that only look
+/// share the lock for a moment, and do not count: a lock that one program has alone cannot be
+/// shared.
 fn lock(rt: &HostRuntime, file: &File) -> Result<(), LockFault> {
     for _ in 0..MOST_LOOKS {
         match file.try_lock() {
@@ -246,7 +249,7 @@ fn lock(rt: &HostRuntime, file: &File) -> Result<(), LockFault> {
     Err(LockFault::Busy(id_of(owner_of(file))))
 }
 
-/// Whether the lock of a file can be shared, which nobody has alone then.
+/// Returns true if the lock of a file can be shared, so that no program has it alone.
 fn is_shared(file: &File) -> io::Result<bool> {
     match file.try_lock_shared() {
         Ok(()) => {
@@ -258,8 +261,8 @@ fn is_shared(file: &File) -> io::Result<bool> {
     }
 }
 
-/// Writes the name of this program into the file of a lock that it has. Where that fails, no owner
-/// is known, and the lock is as good.
+/// Writes the name of this program into the file of a lock that it has. If that fails, no owner is
+/// known, but the lock still holds.
 fn sign(file: &File, owner: Owner) {
     let (id, started) = (owner.id, owner.started);
     let behind = if owner.is_of_lines { LINES } else { "" };
@@ -270,19 +273,19 @@ fn sign(file: &File, owner: Owner) {
     let _ = write!(out, "{id} {started}{behind}\n");
 }
 
-/// The program that the file of a lock names, if it holds that whole.
+/// Reads the program that the file of a lock names, if the file holds the whole name.
 fn owner_of(file: &File) -> Option<Owner> {
     let mut buffer = [0; 64];
     let count = file.read_at(&mut buffer, 0).ok()?;
     owner_named(str::from_utf8(&buffer[..count.min(64)]).ok()?)
 }
 
-/// Its process id.
+/// Returns the process id of an owner.
 fn id_of(owner: Option<Owner>) -> Option<u32> {
     Some(owner?.id)
 }
 
-/// The program that a text names.
+/// Parses the name of a program.
 fn owner_named(text: &str) -> Option<Owner> {
     let line = text.strip_suffix('\n')?;
     let name = line.strip_suffix(LINES).unwrap_or(line);
@@ -294,8 +297,8 @@ fn owner_named(text: &str) -> Option<Owner> {
     })
 }
 
-/// Waits until a file can be locked, or a signal waits that calls this program off. Tells after a
-/// second what is waited for.
+/// Waits until a file can be locked, or fails with `Busy` once a signal that calls this program off
+/// is pending. Reports after a second what it waits for.
 fn wait_for(rt: &HostRuntime, file: &File, path: &str) -> Result<(), LockFault> {
     for round in 0..u64::MAX {
         match lock(rt, file) {
@@ -310,7 +313,8 @@ fn wait_for(rt: &HostRuntime, file: &File, path: &str) -> Result<(), LockFault> 
     Err(LockFault::Busy(None))
 }
 
-/// Whether a session can be kept in this file: a plain one stands there, or none.
+/// Returns true if a session can be kept in a file: a plain file stands there, or none. Fails if
+/// the path is empty.
 fn keeps_session(rt: &HostRuntime, path: &str) -> io::Result<bool> {
     if path.is_empty() {
         return Err(io::Error::from(ErrorKind::NotFound));
@@ -322,8 +326,8 @@ fn keeps_session(rt: &HostRuntime, path: &str) -> io::Result<bool> {
     }
 }
 
-/// Opens the file that is locked, and makes it where it is missing. Its owner alone may open it:
-/// who could would hold every command up.
+/// Opens the file that is locked, and creates it if it is missing. Only its owner may open it:
+/// anyone else who could would be able to hold up every command.
 fn open_lock(rt: &HostRuntime, path: &str) -> io::Result<File> {
     let file = open_own(rt, path, Access::Append)?;
     let _ = file.set_permissions(Permissions::from_mode(RIGHTS));

@@ -43,7 +43,7 @@ impl<E: Eprint> Log for Messages<E> {
     }
 }
 
-/// What stands before a message of this target.
+/// Returns the text before a message of the given target.
 fn front_of(target: &str) -> &'static str {
     if target == HINT { "  " } else { "undorc: " }
 }

@@ -40,8 +40,8 @@ impl<T> Noted<T> {
         }
     }
 
-    /// Whether a call has failed: by an error, by a write that was interrupted or took nothing, or
-    /// by a read that was the 1,001st in a row to be interrupted.
+    /// Returns true if a call has failed: by an error, by a write that was interrupted or took
+    /// nothing, or by the 1,001st read in a row that was interrupted.
     ///
     /// It goes by the results of this wrapper. No clause says that they are those of the wrapped
     /// device, since the contract of a read or write does not name its result.
@@ -51,7 +51,8 @@ impl<T> Noted<T> {
         self.failed
     }
 
-    /// Whether no write was made since the last flush that did not fail.
+    /// Returns true if neither a write nor a failed flush has come since the beginning or the last
+    /// flush that did not fail.
     pub fn is_flushed(&self) -> bool
         ensures { IsTrue result ↔ IsFlushed self.now }
     {
@@ -117,7 +118,7 @@ impl<W: Write> Write for Noted<W> {
     }
 }
 
-/// One read, tried again where it was interrupted. A reader that had failed is tried no more.
+/// Reads once, and repeats a read that was interrupted, unless the reader has failed.
 pub(crate) fn read_some<R: Read>(reader: &mut Noted<R>, buffer: &mut [u8]) -> Result<usize, Failure>
     ensures bound { ReadsAtMost result buffer.new }
     ensures bytes { ReadConsumes (R.remaining (inner_of reader.old))

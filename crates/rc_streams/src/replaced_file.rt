@@ -1,6 +1,5 @@
-//! Files that are replaced whole, so that whoever looks at any moment, also after a program that
-//! was killed, finds the old bytes or the new ones. Until it has its bytes, a file may be read by
-//! its owner alone.
+//! Files that are replaced whole. A reader finds the old bytes or the new ones at any moment, also
+//! after the program was killed. Until a new file has its bytes, only its owner may read it.
 use crate::beside_file::{RIGHTS, refused};
 use crate::umask::new_rights;
 use std::fs::{self, File, Metadata, OpenFile, Permissions};
@@ -9,14 +8,14 @@ use std::os::fd::AsRawFd;
 use std::os::unix::fs::{FileExt, MetadataExt, OpenOptionsExt};
 use std::path::PathBuf;
 
-/// How many bytes a disk must have room for before anything is done.
+/// The number of bytes for which a disk must have room before anything is done.
 const ROOM: usize = 4096;
 
 /// The mark of a directory in which only the owner of a file may remove it.
 const STICKY: u32 = 0o1000;
 
-/// Where the system says what is known of an open file, and what stands there before the number of
-/// its mount.
+/// The directory of the system's descriptions of open files, and the text there before the number
+/// of a file's mount.
 const DESCRIBED: &str = "/proc/self/fdinfo/";
 
 const MOUNT: &[u8] = b"mnt_id:";
@@ -24,8 +23,8 @@ const MOUNT: &[u8] = b"mnt_id:";
 /// The most links that are followed from a path to a file.
 const MAX_LINKS: usize = 40;
 
-/// Replaces what stands at a path, which may lead through links, and to nothing yet. A device or a
-/// pipe is written as it is.
+/// Replaces the file at a path with the given bytes, or creates it. Follows links. Writes a device
+/// or a pipe as it is.
 pub fn replace(rt: &HostRuntime, path: &str, bytes: &[u8]) -> io::Result<()> {
     match fs::metadata(rt, path) {
         Ok(found) => {
@@ -43,8 +42,8 @@ pub fn replace(rt: &HostRuntime, path: &str, bytes: &[u8]) -> io::Result<()> {
     }
 }
 
-/// Tests whether the file at a path can be replaced: nothing forbids it that can be seen, and the
-/// file beside it is made, with some bytes, and removed.
+/// Checks that the file at a path can be replaced: nothing visible forbids it, and a file beside it
+/// can be created, filled with some bytes and removed.
 pub fn probe(rt: &HostRuntime, path: &str) -> io::Result<()> {
     let place = place(rt, path)?;
     if let Err(error) = check_replaceable(rt, &place) {
@@ -61,8 +60,8 @@ pub fn probe(rt: &HostRuntime, path: &str) -> io::Result<()> {
     cleared
 }
 
-/// Fails where no file may be renamed over the one at a place: it is mounted there, or can't be
-/// altered, or belongs to another user in a directory that is sticky.
+/// Fails if no file may be renamed over the one at a place: it is mounted there, or cannot be
+/// altered, or belongs to another user in a sticky directory.
 fn check_replaceable(rt: &HostRuntime, place: &PathBuf) -> io::Result<()> {
     let found = match fs::symlink_metadata(rt, place) {
         Ok(found) => found,
@@ -82,15 +81,15 @@ fn check_replaceable(rt: &HostRuntime, place: &PathBuf) -> io::Result<()> {
     Ok(())
 }
 
-/// Whether a directory is sticky, and neither it nor what stands there belongs to the user who runs
-/// the program, who is not root.
+/// Returns true if a directory is sticky, neither it nor the file in it belongs to the user who
+/// runs the program, and that user is not root.
 fn is_sticky_for(folder: &Metadata, found: &Metadata) -> bool {
     let user = libc::geteuid();
     folder.mode() & STICKY != 0 && user != 0 && folder.uid() != user && found.uid() != user
 }
 
-/// Whether a file can't be written at all, or only at its end, by an attribute of its own: not by
-/// its rights, which do not count where it is replaced.
+/// Returns true if an attribute of a file forbids all writes, or all but those at its end. Its
+/// permissions do not count, since they do not matter if the file is replaced.
 fn is_unalterable(rt: &HostRuntime, place: &PathBuf) -> bool {
     match File::options().write(true).open(rt, place) {
         Ok(file) => {
@@ -101,8 +100,8 @@ fn is_unalterable(rt: &HostRuntime, place: &PathBuf) -> bool {
     }
 }
 
-/// Whether a file stands on another mount than the directory that it is in. Where the system does
-/// not say so, it does not.
+/// Returns true if a file is on another mount than its directory. Returns false if the system does
+/// not say so.
 fn is_mounted(rt: &HostRuntime, place: &PathBuf) -> bool {
     match (mount_at(rt, place.as_str()), mount_at(rt, folder_of(place))) {
         (Some(file), Some(folder)) => file != folder,
@@ -110,7 +109,7 @@ fn is_mounted(rt: &HostRuntime, place: &PathBuf) -> bool {
     }
 }
 
-/// The number of the mount on which a file or a directory stands.
+/// Returns the number of the mount that a file or a directory is on.
 fn mount_at(rt: &HostRuntime, path: &str) -> Option<u64> {
     let file = File::open(rt, path).ok()?;
     let mount = mount_of(rt, &file);
@@ -118,7 +117,8 @@ fn mount_at(rt: &HostRuntime, path: &str) -> Option<u64> {
     mount
 }
 
-/// The same of one that is open, by what the system says of its number.
+/// Returns the number of the mount that an open file is on, by the system's description of that
+/// file.
 fn mount_of(rt: &HostRuntime, file: &File) -> Option<u64> {
     let number = file.as_raw_fd();
     let path = format!(in rt.alloc(); "{DESCRIBED}{number}").ok()?;
@@ -131,7 +131,7 @@ fn mount_of(rt: &HostRuntime, file: &File) -> Option<u64> {
     mount_in(&buffer[..count.ok()?.min(1024)])
 }
 
-/// The number of a mount in what the system says of an open file.
+/// Parses the number of a mount from the system's description of an open file.
 fn mount_in(text: &[u8]) -> Option<u64> {
     for line in text.split(|byte| *byte == b'\n') {
         if let Some(number) = line.strip_prefix(MOUNT) {
@@ -141,7 +141,7 @@ fn mount_in(text: &[u8]) -> Option<u64> {
     None
 }
 
-/// Makes a file of some bytes in place of what stands there.
+/// Creates a file of some bytes in place of what stands there.
 fn make_anew(rt: &HostRuntime, path: &str) -> io::Result<()> {
     clear(rt, path)?;
     let file = create(rt, path)?;
@@ -150,7 +150,7 @@ fn make_anew(rt: &HostRuntime, path: &str) -> io::Result<()> {
     written
 }
 
-/// Makes a file that is not there yet, for its owner alone.
+/// Creates a file for its owner alone. Fails if something already stands there.
 fn create(rt: &HostRuntime, path: &str) -> io::Result<File> {
     let mut options = File::options();
     options.write(true).create_new(true).mode(RIGHTS);
@@ -163,13 +163,14 @@ fn write_room(file: &File) -> io::Result<()> {
     out.write_all(&[b'\n'; ROOM])
 }
 
-/// Writes into what stands there.
+/// Writes bytes into what already stands at a path.
 fn write_through(rt: &HostRuntime, path: &str, bytes: &[u8]) -> io::Result<()> {
     let mut file = File::options().write(true).open(rt, path)?;
     file.write_all(bytes)
 }
 
-/// Puts a file of these bytes, with these rights, in the place of the one that is there, if one is.
+/// Puts a file with the given bytes and permissions at a path, in place of the one that is there,
+/// if any. Without permissions, the file gets those of a new file.
 fn put(rt: &HostRuntime, path: &str, rights: Option<Permissions>, bytes: &[u8]) -> io::Result<()> {
     let place = place(rt, path)?;
     let put = put_at(rt, &place, rights, bytes);
@@ -177,7 +178,7 @@ fn put(rt: &HostRuntime, path: &str, rights: Option<Permissions>, bytes: &[u8]) 
     put
 }
 
-/// The same at a place, to which no link leads.
+/// Puts a file with the given bytes and permissions at a place that is no link.
 fn put_at(
     rt: &HostRuntime,
     place: &PathBuf,
@@ -197,13 +198,13 @@ fn put_at(
     put
 }
 
-/// The path of a file beside a place, with this ending.
+/// Returns the path of the file beside a place with the given ending.
 pub(crate) fn beside(rt: &HostRuntime, place: &PathBuf, ending: &str) -> io::Result<String> {
     let front = place.as_str();
     Ok(format!(in rt.alloc(); "{front}{ending}")?)
 }
 
-/// Where a path leads, through links.
+/// Returns the path to which a path leads through links. Fails if there are too many of them.
 pub(crate) fn place(rt: &HostRuntime, path: &str) -> io::Result<PathBuf> {
     let mut place = PathBuf::from_str(rt.alloc(), path)?;
     match follow_all(rt, &mut place) {
@@ -215,8 +216,8 @@ pub(crate) fn place(rt: &HostRuntime, path: &str) -> io::Result<PathBuf> {
     }
 }
 
-/// Fails where something else than a plain file stands. A link is not followed, and a pipe not
-/// waited for.
+/// Fails if something other than a plain file stands at a path. Does not follow a link, and does
+/// not wait for a pipe.
 pub(crate) fn check_plain(rt: &HostRuntime, path: &str) -> io::Result<()> {
     match fs::symlink_metadata(rt, path) {
         Ok(found) if !found.is_file() => Err(refused("is no plain file")),
@@ -246,7 +247,8 @@ fn follow(rt: &HostRuntime, place: &mut PathBuf) -> io::Result<()> {
     Ok(pushed?)
 }
 
-/// Whether a link stands there. Where that can't be seen, what stands there is not to be replaced.
+/// Returns true if a link stands at a path. Fails if that cannot be seen, so that what stands there
+/// is not replaced.
 fn is_link(rt: &HostRuntime, path: &PathBuf) -> io::Result<bool> {
     match fs::symlink_metadata(rt, path) {
         Ok(found) => Ok(found.is_symlink()),
@@ -292,19 +294,19 @@ fn rename_over(
     sync_folder(rt, place)
 }
 
-/// Has these bytes of a file, and then these rights, reach the disk.
+/// Writes bytes and then permissions to a file, and syncs both to the disk.
 fn write_whole(file: &mut File, rights: Permissions, bytes: &[u8]) -> io::Result<()> {
     file.write_all(bytes)?;
     file.set_permissions(rights)?;
     file.sync_all()
 }
 
-/// Has the new name of the file reach the disk.
+/// Syncs the directory of a place, so that the new name of the file reaches the disk.
 fn sync_folder(rt: &HostRuntime, place: &PathBuf) -> io::Result<()> {
     File::open(rt, folder_of(place))?.sync_all()
 }
 
-/// The directory in which a place is.
+/// Returns the directory that a place is in.
 pub(crate) fn folder_of(place: &PathBuf) -> &str {
     match place.parent() {
         Some(parent) if !parent.as_str().is_empty() => parent.as_str(),

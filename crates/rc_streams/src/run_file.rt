@@ -1,10 +1,10 @@
 //! The file beside that of a session in which a run is logged while it is under way: `FILE.run`
-//! beside `FILE`. Who has the lock of `FILE` makes it and removes it.
+//! beside `FILE`. The program that has the lock of `FILE` creates it and removes it.
 //!
-//! Before a run begins, its log gets the room that it may need, and that of the text which is to
-//! replace the file of the session: blanks behind its head. They are no line, since no newline ends
-//! them. Each line is written over blanks, within a page, so that a program that is killed leaves
-//! all of it or a part that no newline ends, or nothing.
+//! Before a run begins, its log gets the room that it may need, and the room for the text that will
+//! replace the file of the session: blanks after its head. They are no line, since no newline ends
+//! them. Each line is written over blanks, within a page. So a program that is killed leaves all of
+//! a line, a part that no newline ends, or nothing.
 
 ghost use Rattle.std.specs.Prelude.{◌≤◌};
 
@@ -19,10 +19,10 @@ use std::io::{self, ErrorKind, Write};
 use std::os::unix::fs::{FileExt, MetadataExt};
 use std::sync::atomic::{AtomicBool, AtomicU64, Ordering};
 
-/// What stands behind the path of a session's file in that of its run log.
+/// The ending that follows the path of a session's file in the path of its run log.
 const ENDING: &str = ".run";
 
-/// What a write of the system moves at once.
+/// The number of bytes that a write of the system moves at once.
 const PAGE: u64 = 4096;
 
 /// How many bytes the two lines of a service have at most, without its name.
@@ -44,7 +44,7 @@ pub struct Room {
 }
 
 impl Room {
-    /// The room for so many services, whose names have so many bytes.
+    /// Creates the room for a number of services whose names have so many bytes in all.
     pub fn of(services: u64, names: u64) -> Room {
         let lines = services
             .saturating_mul(LINES)
@@ -57,7 +57,7 @@ impl Room {
         }
     }
 
-    /// The same for a run that goes on without it, as far as its lines can be written.
+    /// Returns this room for a run that continues without it, as far as its lines can be written.
     pub fn if_there(self) -> Room {
         Room {
             lines: self.lines,
@@ -66,7 +66,8 @@ impl Room {
         }
     }
 
-    /// How many bytes a disk must have for it beside a text.
+    /// Returns the number of bytes that a disk must have for this room and a text of so many bytes.
+    /// That is one page if the room is not needed.
     fn needed(self, text: u64) -> u64 {
         if self.is_needed {
             text.saturating_add(self.behind(text))
@@ -75,8 +76,8 @@ impl Room {
         }
     }
 
-    /// How many bytes are reserved behind the text of a session: the lines of a run, and that text
-    /// with one state more, whose bundles are at most those that stand there.
+    /// Returns the number of bytes to reserve after the text of a session. They hold the lines of a
+    /// run, and that text with one more state, whose bundles are at most those that stand there.
     fn behind(self, text: u64) -> u64 {
         self.lines
             .saturating_add(self.names)
@@ -101,9 +102,10 @@ pub struct RunFile {
 }
 
 impl RunFile {
-    /// The run log of the session that is kept in the file of this path, where a disk has the room
-    /// that a run of it needs. It may be read by whom that file may be read by, or would be, where
-    /// it is not there yet.
+    /// Opens the run log of the session in the file at `path`, and creates it if it is missing.
+    /// Fails if the disk lacks the room that a run needs. The log gets the permissions of that
+    /// file, so that the same users may read it, or those of a new file if that file does not exist
+    /// yet.
     pub fn open(rt: &HostRuntime, path: &str, room: Room) -> io::Result<RunFile> {
         let file = open_to_write(rt, path, ENDING)?;
         let (rights, length) = match fs::metadata(rt, path) {
@@ -129,10 +131,10 @@ impl RunFile {
         })
     }
 
-    /// Begins anew with these bytes, the text of a session and a step, and reserves room. Where the
-    /// log of an earlier run can't be emptied, nothing is written: the next recovery would find the
-    /// new run behind the earlier one, and enter neither. Where there is no room that is needed,
-    /// nothing stays, and no line is written.
+    /// Begins the log anew with the given bytes, the text of a session and a step, and reserves
+    /// room. If the log of an earlier run cannot be emptied, writes nothing: the next recovery
+    /// would find the new run after the earlier one, and enter neither. If there is no room and it
+    /// is needed, nothing stays, and no line is written.
     pub fn begin(&self, head: &[u8], room: Room) {
         if !self.clear() || self.file.write_all_at(head, 0).is_err() {
             self.fail();
@@ -153,8 +155,8 @@ impl RunFile {
         }
     }
 
-    /// Writes a line behind those before it, and returns whether all of it was written. After a
-    /// line that was not, nothing more is.
+    /// Writes a line after the earlier ones, and returns true if all of it was written. After a
+    /// line that was not, writes nothing more.
     pub fn append(&self, line: &[u8]) -> bool {
         if !self.is_open.load(Ordering::SeqCst) {
             return false;
@@ -174,8 +176,8 @@ impl RunFile {
         self.has_failed.store(true, Ordering::SeqCst);
     }
 
-    /// Takes the place of a line of so many bytes, which no other line gets. None: there is no room
-    /// any more.
+    /// Takes a place for a line of so many bytes, which no other line gets. Returns none if there
+    /// is no room any more.
     fn take_place(&self, length: u64) -> Option<u64> {
         for _ in 0..u64::MAX {
             let now = self.place.load(Ordering::SeqCst);
@@ -201,8 +203,8 @@ impl RunFile {
         None
     }
 
-    /// Empties the log, and returns whether that could be done. Until the next run begins, nothing
-    /// is appended.
+    /// Empties the log, and returns true if that could be done. Appends nothing until the next run
+    /// begins.
     pub fn clear(&self) -> bool {
         self.is_open.store(false, Ordering::SeqCst);
         let is_empty = self.file.set_len(0).is_ok();
@@ -212,18 +214,18 @@ impl RunFile {
         is_empty
     }
 
-    /// Whether the log of a run stands there, of which the session may not know.
+    /// Returns true if the log of a run stands in the file. The session may not know of that run.
     pub fn has_run(&self) -> bool {
         self.has_run.load(Ordering::SeqCst)
     }
 
-    /// Whether a line could not be written.
+    /// Returns true if a line could not be written.
     pub fn has_failed(&self) -> bool {
         self.has_failed.load(Ordering::SeqCst)
     }
 }
 
-/// The first place from which a line of so many bytes does not go over the end of a page.
+/// Returns the first place from which a line of so many bytes does not go over the end of a page.
 fn place_from(place: u64, length: u64) -> u64
     ensures later { place ≤ result }
 {
@@ -235,8 +237,8 @@ fn place_from(place: u64, length: u64) -> u64
     }
 }
 
-/// Fails where a disk has no room for so many bytes. Where the log of an earlier run stands, that
-/// is left.
+/// Fails if the disk has no room for so many bytes. Leaves the log of an earlier run untouched, and
+/// checks nothing then.
 fn check_room(file: &File, room: u64) -> io::Result<()> {
     if file.metadata()?.len() > 0 {
         return Ok(());
@@ -246,7 +248,8 @@ fn check_room(file: &File, room: u64) -> io::Result<()> {
     filled
 }
 
-/// Reserves room behind so many bytes of a log, and returns where it ends.
+/// Reserves room after the first `length` bytes of a log, and returns its end. If the room is
+/// missing and not needed, returns `UNBOUND`.
 fn reserve(file: &File, length: u64, room: Room) -> io::Result<u64> {
     let end = length.saturating_add(room.behind(length));
     match fill(file, length, end) {
@@ -274,8 +277,8 @@ fn fill(file: &File, from: u64, end: u64) -> io::Result<()> {
     Ok(())
 }
 
-/// Gives the room back that is reserved in the run log of a session's file, if there is one: that
-/// file is to be replaced, and no line is written any more.
+/// Gives back the room that is reserved in the run log of a session's file, if there is one. That
+/// file is about to be replaced, and no more lines are written.
 pub fn give_room(rt: &HostRuntime, path: &str) -> io::Result<()> {
     let beside = path_beside(rt, path, ENDING)?;
     let opened = open_there(rt, beside.as_str(), Access::Write);
@@ -293,7 +296,7 @@ pub fn give_room(rt: &HostRuntime, path: &str) -> io::Result<()> {
     given
 }
 
-/// How long a file is without the blanks at its end.
+/// Returns the length of a file without the blanks at its end.
 fn unfilled(file: &File) -> io::Result<u64> {
     let mut end = file.metadata()?.len();
     let mut buffer = [0; PIECE];
@@ -312,7 +315,7 @@ fn unfilled(file: &File) -> io::Result<u64> {
     Ok(0)
 }
 
-/// How many bytes there are without the blanks at the end.
+/// Returns the number of bytes without the blanks at the end.
 fn used_in(bytes: &[u8]) -> usize {
     let mut used = 0;
     for place in 0..bytes.len() {
@@ -323,8 +326,8 @@ fn used_in(bytes: &[u8]) -> usize {
     used
 }
 
-/// The bytes of the run log of a session's file. None: there is none. It belongs to the user who
-/// runs the program, or to the owner of that file, whose commands made it.
+/// Reads the run log of a session's file. Returns none if there is none. Fails unless the log
+/// belongs to the user who runs the program, or to the owner of that file, whose commands made it.
 pub fn read(rt: &HostRuntime, path: &str) -> io::Result<Option<Vec<u8>>> {
     let beside = path_beside(rt, path, ENDING)?;
     let opened = open_to_read(rt, path, beside.as_str());
@@ -336,7 +339,7 @@ pub fn read(rt: &HostRuntime, path: &str) -> io::Result<Option<Vec<u8>>> {
     }
 }
 
-/// Opens the run log at a path, of this session's file.
+/// Opens the run log at `beside`, which is that of the session's file at `path`.
 fn open_to_read(rt: &HostRuntime, path: &str, beside: &str) -> io::Result<File> {
     check_plain(rt, beside)?;
     let file = File::open(rt, beside)?;
@@ -349,7 +352,7 @@ fn open_to_read(rt: &HostRuntime, path: &str, beside: &str) -> io::Result<File> 
     }
 }
 
-/// Fails unless an open file is the run log at a path, and of one who may write it.
+/// Fails unless an open file is the run log at a path and belongs to a user who may write it.
 fn check_owner(rt: &HostRuntime, path: &str, beside: &str, file: &File) -> io::Result<()> {
     let opened = file.metadata()?;
     check_there(rt, beside, &opened)?;

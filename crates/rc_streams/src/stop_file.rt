@@ -1,10 +1,10 @@
-//! What calls a run off: a line of a file beside that of its session, `FILE.stop` beside `FILE`,
-//! and a signal that waits. A run that is called off begins no transition more.
+//! What calls a run off: a line in a file beside that of its session, `FILE.stop` beside `FILE`, or
+//! a pending signal. A run that is called off begins no further transition.
 //!
-//! The line names the program that it means, as the lock of the session does, and where that serves
-//! lines the number of the run. So no later command and no later line is called off by it, and it
-//! may be written before the program looks for it. It begins by a newline, so that a part of a line
-//! that stands before it does not spoil it.
+//! The line names the program that it means, as the lock of the session does. If that program
+//! serves lines, it also names the number of the run. So it calls off no later command and no later
+//! line, and may be written before the program looks for it. It begins with a newline, so that a
+//! partial line before it does not spoil it.
 
 use crate::beside_file::{
     Access, above_streams, open_own, open_there, open_to_append, path_beside, stands_at,
@@ -19,10 +19,10 @@ use std::io::{self, ErrorKind, Write};
 use std::os::unix::fs::FileExt;
 use std::sync::atomic::{AtomicU64, Ordering};
 
-/// What stands behind the path of a session's file in that of this file.
+/// The ending that follows the path of a session's file in the path of this file.
 const ENDING: &str = ".stop";
 
-/// How a line begins that calls a run off, and one that says which run is under way.
+/// The first word of a line that calls a run off, and of one that says which run is under way.
 const STOP: &str = "stop";
 
 const RUN: &str = "run";
@@ -33,14 +33,14 @@ const MOST: usize = 4096;
 /// How often the file may be removed while a line is written there.
 const MOST_FILES: u32 = 100;
 
-/// What stands there before the signals that wait for the program, as a hexadecimal number.
+/// The text before the signals that are pending for the program, which are a hexadecimal number.
 const WAITING: &[u8] = b"ShdPnd:\t";
 
 /// HUP, INT and TERM in such a number, in which signal N is bit N - 1.
 const CALLING_OFF: u64 = 0x4003;
 
-/// The file, and the system's account of the program, in which a signal waits only where the
-/// program was started with it blocked.
+/// The file, and the system's account of the program. A signal is pending there only if the program
+/// was started with it blocked.
 #[derive(Drop)]
 pub struct StopFile {
     rt: HostRuntime,
@@ -55,8 +55,9 @@ pub struct StopFile {
 }
 
 impl StopFile {
-    /// The file for the session that is kept in the file of this path. The program has the lock of
-    /// that session, and serves the lines of an input or not.
+    /// Opens the stop file of the session in the file at `path`, and creates it if it is missing.
+    /// The program has the lock of that session. `is_of_lines` says whether it serves the lines of
+    /// an input.
     pub fn open(rt: &HostRuntime, path: &str, is_of_lines: bool) -> io::Result<StopFile> {
         let path = path_beside(rt, path, ENDING)?;
         match open_own(rt, path.as_str(), Access::Append) {
@@ -75,7 +76,7 @@ impl StopFile {
         }
     }
 
-    /// Says which run is under way, where lines are served: it begins.
+    /// Begins the next run if lines are served, and writes its number into the file.
     pub fn begin(&self) {
         if self.owner.is_of_lines {
             let run = self.run.load(Ordering::SeqCst).saturating_add(1);
@@ -90,7 +91,7 @@ impl StopFile {
         }
     }
 
-    /// Says that no run is under way, where lines are served.
+    /// Empties the file if lines are served, which says that no run is under way.
     pub fn end(&self) {
         if self.owner.is_of_lines {
             match self.other() {
@@ -105,12 +106,12 @@ impl StopFile {
         }
     }
 
-    /// Whether the run is called off.
+    /// Returns true if the run is called off, by a line of the file or by a signal.
     pub fn is_called_off(&self) -> bool {
         self.is_named() || self.is_signalled()
     }
 
-    /// Whether a line of the file calls the run off.
+    /// Returns true if a line of the file calls the run off.
     fn is_named(&self) -> bool {
         match self.other() {
             Some(file) => {
@@ -122,7 +123,7 @@ impl StopFile {
         }
     }
 
-    /// The same by one file.
+    /// Returns true if a line of the given open file calls the run off.
     fn is_named_in(&self, file: &File) -> bool {
         match number_in(file, STOP, &self.owner) {
             Some(run) => run == self.run.load(Ordering::SeqCst),
@@ -130,8 +131,8 @@ impl StopFile {
         }
     }
 
-    /// The file that stands there now, where that is another one, since somebody has removed the
-    /// first one. Where lines are served, it is made: without it no run is under way.
+    /// Opens the file that stands at the path now, if somebody has removed the first one. If lines
+    /// are served, creates it: without it no run is under way.
     fn other(&self) -> Option<File> {
         let path = self.path.as_str();
         if stands_at(&self.rt, path, &self.file) {
@@ -143,7 +144,7 @@ impl StopFile {
         }
     }
 
-    /// Whether a signal waits.
+    /// Returns true if a signal that calls the run off is pending.
     fn is_signalled(&self) -> bool {
         match &self.status {
             Some(status) => is_told_in(status),
@@ -152,14 +153,14 @@ impl StopFile {
     }
 }
 
-/// Says in a file which run of a program is under way, and nothing else.
+/// Replaces the text of a file with a line that says which run of a program is under way.
 fn tell_run(rt: &HostRuntime, file: &File, owner: &Owner, run: u64) {
     let _ = file.set_len(0);
     let _ = write_line(rt, file, RUN, owner, run);
 }
 
-/// Writes a line on a run of a program, by one write, so that lines that are written at once do not
-/// mix. A newline stands before it: what stands there may be a part of a line.
+/// Writes a line on a run of a program in one write, so that lines that are written at once do not
+/// mix. Writes a newline before it, since the file may end in a partial line.
 fn write_line(
     rt: &HostRuntime,
     file: &File,
@@ -175,8 +176,8 @@ fn write_line(
     written
 }
 
-/// The number of a run in the last line of a file that begins with this word and names this
-/// program.
+/// Returns the number of the run in the last line of a file that begins with the given word and
+/// names the given program.
 fn number_in(file: &File, word: &str, owner: &Owner) -> Option<u64> {
     let length = file.metadata().ok()?.len();
     if length == 0 {
@@ -189,7 +190,8 @@ fn number_in(file: &File, word: &str, owner: &Owner) -> Option<u64> {
     last_number(&buffer[..count.min(MOST)], word, owner)
 }
 
-/// The same in the text of the file.
+/// Returns the number of the run in the last line of a text that begins with the given word and
+/// names the given program.
 fn last_number(text: &[u8], word: &str, owner: &Owner) -> Option<u64> {
     let mut last = None;
     for line in text.split(|byte| *byte == b'\n') {
@@ -200,7 +202,8 @@ fn last_number(text: &[u8], word: &str, owner: &Owner) -> Option<u64> {
     last
 }
 
-/// The same in a line.
+/// Returns the number of the run in a line, if it begins with the given word and names the given
+/// program.
 fn number_by(line: &[u8], word: &str, owner: &Owner) -> Option<u64> {
     let mut words = str::from_utf8(line).ok()?.split(' ');
     let is_so = words.next()? == word
@@ -214,12 +217,12 @@ fn number_by(line: &[u8], word: &str, owner: &Owner) -> Option<u64> {
     }
 }
 
-/// The system's account of the program. It is no stream that a script is handed.
+/// Opens the system's account of the program. The file is no stream that a script gets.
 fn account(rt: &HostRuntime) -> io::Result<File> {
     above_streams(File::open(rt, STATUS)?)
 }
 
-/// Whether a signal that calls a run off waits for the program.
+/// Returns true if a signal that calls a run off is pending for the program.
 pub(crate) fn is_signal_waiting(rt: &HostRuntime) -> bool {
     match File::open(rt, STATUS) {
         Ok(status) => {
@@ -231,7 +234,7 @@ pub(crate) fn is_signal_waiting(rt: &HostRuntime) -> bool {
     }
 }
 
-/// Whether a signal waits, by the file of the system's account.
+/// Returns true if a signal is pending, by the file of the system's account.
 fn is_told_in(status: &File) -> bool {
     let mut buffer = [0; 4096];
     match status.read_at(&mut buffer, 0) {
@@ -240,9 +243,9 @@ fn is_told_in(status: &File) -> bool {
     }
 }
 
-/// Calls off the command that goes on with the session in the file of this path, and returns
-/// whether there is one: a program that serves lines has one only while it runs a line. No other
-/// command is called off, and this one begins no transition more.
+/// Calls off the command that continues the session in the file at `path`, and returns true if
+/// there is one. A program that serves lines has one only while it runs a line. The command begins
+/// no further transition. Calls off no other command.
 pub fn call_off(rt: &HostRuntime, path: &str) -> io::Result<bool> {
     let Some(owner) = owner_at(rt, path)? else {
         return Ok(false);
@@ -274,7 +277,7 @@ enum Called {
     Removed,
 }
 
-/// Calls off the run of a program by a line of the file at a path.
+/// Calls off the run of a program by a line of the file at `beside`.
 fn call_off_at(rt: &HostRuntime, path: &str, beside: &str, owner: &Owner) -> io::Result<Called> {
     let file = match open_for(rt, path, beside, owner) {
         Ok(file) => file,
@@ -303,8 +306,8 @@ fn call_off_at(rt: &HostRuntime, path: &str, beside: &str, owner: &Owner) -> io:
     Ok(if stands { Called::Off } else { Called::Removed })
 }
 
-/// Opens the file, and makes it where it is missing, unless the program makes it before its first
-/// run.
+/// Opens the file. Creates it if it is missing, unless the program serves lines: then it creates
+/// the file before its first run.
 fn open_for(rt: &HostRuntime, path: &str, beside: &str, owner: &Owner) -> io::Result<File> {
     if owner.is_of_lines {
         open_there(rt, beside, Access::Append)
@@ -313,8 +316,9 @@ fn open_for(rt: &HostRuntime, path: &str, beside: &str, owner: &Owner) -> io::Re
     }
 }
 
-/// Removes what stands in the place of the file for a session, unless it calls this program off,
-/// which has the lock of that session, and serves the lines of an input or not.
+/// Removes what stands in the place of a session's stop file, unless it calls this program off. The
+/// program has the lock of that session. `is_of_lines` says whether it serves the lines of an
+/// input.
 pub fn clear_others(rt: &HostRuntime, path: &str, is_of_lines: bool) -> io::Result<()> {
     let beside = path_beside(rt, path, ENDING)?;
     let owner = Owner::own(rt, is_of_lines);
@@ -330,9 +334,9 @@ pub fn clear_others(rt: &HostRuntime, path: &str, is_of_lines: bool) -> io::Resu
     cleared
 }
 
-/// Removes the file that is open, unless it calls off a program that serves no lines. A line that
-/// is written before it is removed goes into the next one. Who writes later sees that it is
-/// removed.
+/// Removes the open file, unless it calls off a program that serves no lines. Copies a line that is
+/// written before the removal into the next file. A program that writes later sees that the file
+/// was removed.
 fn clear_unless_named(
     rt: &HostRuntime,
     path: &str,
@@ -353,7 +357,7 @@ fn clear_unless_named(
     Ok(())
 }
 
-/// Removes the file for the session in the file of this path, if there is one.
+/// Removes the stop file of the session in the file at `path`, if there is one.
 pub fn remove(rt: &HostRuntime, path: &str) -> io::Result<()> {
     let beside = path_beside(rt, path, ENDING)?;
     let removed = clear(rt, beside.as_str());
@@ -361,7 +365,7 @@ pub fn remove(rt: &HostRuntime, path: &str) -> io::Result<()> {
     removed
 }
 
-/// Whether HUP, INT or TERM waits, by the system's account of the program.
+/// Returns true if HUP, INT or TERM is pending, by the system's account of the program.
 fn is_waiting(account: &[u8]) -> bool {
     account
         .split(|byte| *byte == b'\n')
@@ -371,7 +375,7 @@ fn is_waiting(account: &[u8]) -> bool {
         })
 }
 
-/// The number that hexadecimal digits spell, at most 16 of them.
+/// Parses a hexadecimal number of at most 64 bits. Returns 0 for any other text.
 fn number_of(digits: &[u8]) -> u64 {
     match str::from_utf8(digits) {
         Ok(text) => u64::from_str_radix(text.trim(), 16).unwrap_or(0),

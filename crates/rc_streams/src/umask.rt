@@ -6,14 +6,14 @@ use std::os::unix::fs::{FileExt, PermissionsExt};
 /// The system's account of the program.
 pub(crate) const STATUS: &str = "/proc/self/status";
 
-/// What stands there before the rights that a new file does not get, as an octal number.
+/// The text there before the umask, which is an octal number.
 const UMASK: &[u8] = b"Umask:\t";
 
-/// What a new file may have at most: to be read by all, and written by its owner.
+/// The most permissions of a new file: all may read it, and its owner may write it.
 const MOST: u32 = 0o644;
 
-/// The rights of a new file, less those that the program's umask takes. Where that can't be seen,
-/// its owner's alone.
+/// Returns the permissions of a new file, less those that the program's umask takes. If the umask
+/// cannot be seen, only the owner gets any.
 pub(crate) fn new_rights(rt: &HostRuntime) -> Permissions {
     let taken = match File::open(rt, STATUS) {
         Ok(status) => {
@@ -29,14 +29,14 @@ pub(crate) fn new_rights(rt: &HostRuntime) -> Permissions {
     }
 }
 
-/// The umask in the system's account.
+/// Reads the umask from the file of the system's account.
 fn umask_in(status: &File) -> Option<u32> {
     let mut buffer = [0; 4096];
     let count = status.read_at(&mut buffer, 0).ok()?;
     umask_of(&buffer[..count.min(4096)])
 }
 
-/// The umask in the text of the system's account.
+/// Parses the umask from the text of the system's account.
 fn umask_of(account: &[u8]) -> Option<u32> {
     for line in account.split(|byte| *byte == b'\n') {
         if let Some(number) = line.strip_prefix(UMASK) {

@@ -5,13 +5,13 @@ use std::io::{self, ErrorKind, Read};
 /// The most bytes for which room is taken before a byte is read: a size may be wrong.
 const MAX_ROOM: u64 = 67_108_864;
 
-/// The bytes of a file, in a buffer of its size. What has no size, as a pipe, is read in
+/// Reads the bytes of a file into a buffer of its size. Reads what has no size, such as a pipe, in
 /// pieces.
 pub fn read(rt: &HostRuntime, path: &str) -> io::Result<Vec<u8>> {
     read_all(rt, File::open(rt, path)?)
 }
 
-/// The bytes of an open file.
+/// Reads the bytes of an open file.
 pub(crate) fn read_all(rt: &HostRuntime, file: File) -> io::Result<Vec<u8>> {
     let mut file = file;
     let size = file.metadata()?.len();
@@ -22,7 +22,8 @@ pub(crate) fn read_all(rt: &HostRuntime, file: File) -> io::Result<Vec<u8>> {
     Ok(bytes)
 }
 
-/// The bytes of a file that need not be there, where one is named. A pipe or a device is refused.
+/// Reads the bytes of a file, if one is named. Returns none if none is named or the file does not
+/// exist. Fails for a pipe or a device.
 pub fn read_optional(rt: &HostRuntime, file: Option<&str>) -> io::Result<Option<Vec<u8>>> {
     let Some(path) = file else {
         return Ok(None);

@@ -14,7 +14,7 @@ pub fn write_answer<W: Write>(writer: &mut Noted<W>, answer: &[u8]) -> Result<()
     ensures whole { OnOk result (Appends (W.contents (inner_of writer.old))
         (W.contents (inner_of writer.new)) answer.now) }
 
-    // Whatever the result, a prefix of the answer is all that is written.
+    // Whatever the result, only a prefix of the answer is written.
     ensures front { AppendsFront (W.contents (inner_of writer.old))
         (W.contents (inner_of writer.new)) answer.now }
     ensures flushed { OnOk result (IsFlushed writer.new) }

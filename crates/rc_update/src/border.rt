@@ -11,8 +11,8 @@ use rc_db::Db;
 use rc_set::{NoMem, Set};
 use std::alloc::Global;
 
-/// Whether each service of `from` goes on in the new database, and `to` holds exactly those as
-/// which they go on.
+/// Returns true if each service of `from` goes on in the new database and `to` holds exactly the
+/// services that they go on as.
 pub fn are_carried(
     alloc: Global,
     old: &Db,
@@ -41,7 +41,7 @@ pub fn are_carried(
     Ok(same)
 }
 
-// Whether each of these services goes on.
+// Returns true if each of the given services goes on.
 fn all_go_on(old: &Db, new: &Db, list: &[Conversion<'_>], from: &Set) -> bool
     requires { length from.now ≡ length old.now.names }
     ensures { IsTrue result ↔ ((s : ℕ) → Has from.now s → (t : ℕ)
@@ -55,7 +55,7 @@ fn all_go_on(old: &Db, new: &Db, list: &[Conversion<'_>], from: &Set) -> bool
     true
 }
 
-// Whether a service is one of these and does not go on.
+// Returns true if a service is one of the given ones and does not go on.
 fn is_stray(old: &Db, id: u16, new: &Db, list: &[Conversion<'_>], from: &Set) -> bool
     requires bound { length from.now ≡ length old.now.names }
     requires id { id < length old.now.names }

@@ -30,7 +30,7 @@ pub struct Update {
     pub raise: Vec<String>,
 }
 
-/// What an update from one database to another does, where these services are live.
+/// Computes the update from one database to another for the given live services.
 pub fn carry(
     alloc: Global,
     old: &Db,
@@ -65,7 +65,7 @@ pub fn carry(
     })
 }
 
-/// What stays live, as services of the old database.
+/// Returns the services that stay live, as services of the old database.
 pub fn staying(
     alloc: Global,
     old: &Db,
@@ -82,7 +82,8 @@ pub fn staying(
     left(alloc, old, live, &altered)
 }
 
-// What stays live, as services of the new database, where these are altered or gone.
+// Returns the services that stay live, as services of the new database, given those that are
+// altered, gone or to be restarted.
 fn kept(
     alloc: Global,
     old: &Db,
@@ -105,7 +106,7 @@ fn kept(
     carried(alloc, old, new, list, &stays)
 }
 
-// What is live and is none of these, nor needs any of them along paths.
+// Returns the live services that are not in a set and do not depend on any of it along paths.
 fn left(alloc: Global, old: &Db, live: &Set, altered: &Set) -> Result<Set, NoMem>
     requires live { length live.now ≡ length old.now.names }
     requires bound { length altered.now ≡ length old.now.names }
@@ -118,7 +119,7 @@ fn left(alloc: Global, old: &Db, live: &Set, altered: &Set) -> Result<Set, NoMem
     Ok(stays)
 }
 
-// The names under which what is live goes on.
+// Returns the names under which the live services go on.
 fn raised(
     alloc: Global,
     old: &Db,
@@ -135,7 +136,7 @@ fn raised(
     names_of(alloc, new.names(), &there)
 }
 
-// What is live, and is altered, gone or to be restarted.
+// Returns the live services that are altered, gone or to be restarted.
 fn altered(
     alloc: Global,
     old: &Db,
@@ -159,7 +160,7 @@ fn altered(
     Ok(set)
 }
 
-// Puts a service in that is altered, gone or to be restarted.
+// Adds a service if it is altered, gone or to be restarted.
 fn add_altered(
     alloc: Global,
     set: &mut Set,
@@ -182,7 +183,7 @@ fn add_altered(
     Ok(())
 }
 
-/// The services of the new database as which these of the old one go on.
+/// Returns the services of the new database that the given services of the old one go on as.
 pub(crate) fn carried(
     alloc: Global,
     old: &Db,
@@ -205,7 +206,7 @@ pub(crate) fn carried(
     Ok(carried)
 }
 
-// Puts the service in as which one goes on, if there is one.
+// Adds the twin of a service, if it has one.
 fn add_twin(set: &mut Set, old: &Db, id: u16, list: &[Conversion<'_>], new: &Db)
     requires id { id < length old.now.names }
     requires bound { length set.old ≡ length new.now.names }
@@ -218,7 +219,7 @@ fn add_twin(set: &mut Set, old: &Db, id: u16, list: &[Conversion<'_>], new: &Db)
     }
 }
 
-/// The names of services, each once, in byte order.
+/// Returns the names of services in byte order, each once.
 pub fn names_of(alloc: Global, names: &Names, set: &Set) -> Result<Vec<String>, NoMem>
     requires { length set.now ≡ length names.now }
     ensures { IfOk result (λ listed. ListsNames

@@ -1,4 +1,4 @@
-//! Under which name a service goes on in another database.
+//! The name under which a service goes on in another database.
 ghost use Rattle.std.specs.Prelude.{◌≡◌, None, Some, MatchOption};
 ghost use Rattle.std.specs.Str.{bytes_eq};
 ghost use Rattle.rc_update.specs.Conversions.{conversion_for, conversion_of, conversions_of};
@@ -9,11 +9,11 @@ ghost use Rattle.rc_update.specs.Conversions.{counterpart, is_restarted, is_take
 pub struct Conversion<'a> {
     pub old: &'a [u8],
     pub new: &'a [u8],
-    /// Whether it does not stay up, though nothing else alters it.
+    /// Whether the service is restarted even if nothing else alters it.
     pub restart: bool,
 }
 
-/// The name under which the service of a name goes on.
+/// Returns the name under which the service of a name goes on, if it does.
 pub(crate) fn counterpart<'a>(list: &[Conversion<'a>], name: &'a [u8]) -> Option<&'a [u8]>
     ensures { MatchOption result (counterpart (conversions_of list.now) name.now ≡ None)
         (λ other. counterpart (conversions_of list.now) name.now ≡ Some other.now) }
@@ -30,7 +30,7 @@ pub(crate) fn counterpart<'a>(list: &[Conversion<'a>], name: &'a [u8]) -> Option
     }
 }
 
-/// Whether the service of a name is to be restarted.
+/// Returns true if the service of a name is to be restarted.
 pub(crate) fn is_restarted(list: &[Conversion<'_>], name: &[u8]) -> bool
     ensures { result ≡ is_restarted (conversions_of list.now) name.now }
 {
@@ -40,7 +40,7 @@ pub(crate) fn is_restarted(list: &[Conversion<'_>], name: &[u8]) -> bool
     }
 }
 
-/// The first conversion of an old name.
+/// Returns the first conversion with the given old name.
 pub(crate) fn conversion_for<'a>(list: &[Conversion<'a>], name: &[u8]) -> Option<Conversion<'a>>
     ensures { MatchOption result (conversion_for (conversions_of list.now) name.now ≡ None)
         (λ found. conversion_for (conversions_of list.now) name.now
@@ -54,14 +54,14 @@ pub(crate) fn conversion_for<'a>(list: &[Conversion<'a>], name: &[u8]) -> Option
     None
 }
 
-// Whether two names are one.
+// Returns true if two names are the same.
 fn is_same(name: &[u8], other: &[u8]) -> bool
     ensures { result ≡ bytes_eq name.now other.now }
 {
     name == other
 }
 
-/// Whether a conversion has this new name.
+/// Returns true if a conversion has the given new name.
 pub(crate) fn is_taken(list: &[Conversion<'_>], name: &[u8]) -> bool
     ensures { result ≡ is_taken (conversions_of list.now) name.now }
 {

@@ -1,4 +1,4 @@
-//! How a service of one database differs from that as which it goes on in another.
+//! How a service of one database differs from its twin in another.
 ghost use Rattle.std.specs.Prelude.{◌≡◌, ◌<◌, ◌↔◌, length, IfNone, IfOk, IfSome, IsTrue};
 ghost use Rattle.rc_update.specs.Carrying.{AreTwins, IsUnaltered};
 ghost use Rattle.rc_update.specs.Conversions.{conversions_of};
@@ -19,13 +19,14 @@ pub enum Difference {
     Restart,
     /// It is a oneshot, and was a longrun, or the other way round.
     OtherKind,
-    /// What reads its output is another one.
+    /// Its output goes elsewhere.
     OtherPipeline,
-    /// What it needs itself is other.
+    /// Its own dependencies differ.
     OtherNeeds,
 }
 
-/// How a service of the old database differs. None: it goes on unaltered.
+/// Returns the first difference between a service of the old database and its twin, or None if the
+/// service goes on unaltered.
 pub fn difference_of(
     alloc: Global,
     old: &Db,
@@ -58,14 +59,14 @@ pub fn difference_of(
     Ok(Some(Difference::OtherNeeds))
 }
 
-// Whether two services are of one kind.
+// Returns true if two services are of the same kind.
 fn is_of_kind(a: &Service, b: &Service) -> bool
     ensures { IsTrue result ↔ (a.now.kind ≡ b.now.kind) }
 {
     a.kind == b.kind
 }
 
-// Whether what reads the output of the one goes on as what reads that of the other.
+// Returns true if the readers of the output of two services are twins, or if neither has a reader.
 fn write_to_twins(old: &Db, a: &Service, list: &[Conversion<'_>], new: &Db, b: &Service) -> bool
     requires { IfSome a.now.producer_for (λ s. s < length old.now.names) }
     ensures { IsTrue result ↔ AreTwins old.now new.now (conversions_of list.now)
@@ -74,7 +75,7 @@ fn write_to_twins(old: &Db, a: &Service, list: &[Conversion<'_>], new: &Db, b: &
     are_twins(old, a.producer_for, list, new, b.producer_for)
 }
 
-/// Whether a service of the old database goes on unaltered.
+/// Returns true if a service of the old database goes on unaltered.
 pub(crate) fn is_unaltered(
     alloc: Global,
     old: &Db,

@@ -6,7 +6,8 @@ ghost use Rattle.rc_update.specs.Distinct.{is_converted};
 
 use crate::conversion::{Conversion, conversion_for, is_taken};
 
-/// The first name that a conversion shares with an earlier one, the old name before the new one.
+/// Returns the first name that a conversion shares with an earlier one. Checks the old name before
+/// the new one.
 pub fn first_twice<'a>(list: &[Conversion<'a>]) -> Option<&'a [u8]>
     ensures { MatchOption result (AreDistinct (conversions_of list.now))
         (λ name. IsFirstTwice (conversions_of list.now) name.now) }
@@ -19,7 +20,7 @@ pub fn first_twice<'a>(list: &[Conversion<'a>]) -> Option<&'a [u8]>
     None
 }
 
-// The name that a conversion shares with one of those before.
+// Returns the name that a conversion shares with one of those before it.
 fn twice_in<'a>(before: &[Conversion<'a>], one: Conversion<'a>) -> Option<&'a [u8]>
     ensures { MatchOption result (IsNovel (conversions_of before.now) (conversion_of one.entry))
         (λ name. IsTwiceIn (conversions_of before.now) (conversion_of one.entry) name.now) }
@@ -33,7 +34,7 @@ fn twice_in<'a>(before: &[Conversion<'a>], one: Conversion<'a>) -> Option<&'a [u
     None
 }
 
-// Whether a conversion has this old name.
+// Returns true if a conversion has the given old name.
 fn is_converted(list: &[Conversion<'_>], name: &[u8]) -> bool
     ensures { result ≡ is_converted (conversions_of list.now) name.now }
 {

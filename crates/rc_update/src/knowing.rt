@@ -6,7 +6,8 @@ ghost use Rattle.rc_update.specs.Knowing.{AreKnown, IsFirstStranger, IsKnownIn, 
 use crate::conversion::Conversion;
 use rc_names::Names;
 
-/// The first name of a conversion that its database lacks, the old name before the new one.
+/// Returns the first name of a conversion that its database lacks. Checks the old name before the
+/// new one.
 pub fn first_unknown<'a>(list: &[Conversion<'a>], old: &Names, new: &Names) -> Option<&'a [u8]>
     ensures { MatchOption result (AreKnown old.now new.now (conversions_of list.now))
         (λ name. IsFirstStranger old.now new.now (conversions_of list.now) name.now) }
@@ -19,7 +20,7 @@ pub fn first_unknown<'a>(list: &[Conversion<'a>], old: &Names, new: &Names) -> O
     None
 }
 
-// The name of a conversion that its database lacks.
+// Returns the name of a conversion that its database lacks.
 fn unknown_in<'a>(one: Conversion<'a>, old: &Names, new: &Names) -> Option<&'a [u8]>
     ensures { MatchOption result (IsKnownIn old.now new.now (conversion_of one.entry))
         (λ name. IsStranger old.now new.now (conversion_of one.entry) name.now) }

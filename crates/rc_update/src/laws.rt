@@ -5,7 +5,7 @@ ghost use Rattle.rc_update.specs.Carrying.{IsTwin};
 ghost use Rattle.rc_update.specs.Conversions.{Conversion};
 ghost use Rattle.rc_update.specs.Distinct.{AreDistinct};
 
-/// Two services never go on as one, where no two conversions share a name.
+/// If no two conversions share a name, two services never go on as one.
 pub fn none_go_on_as_one()
     ensures { (old new : Database) (list : List Conversion) (s t u : ℕ) →
         IsDatabase old → AreDistinct list →

@@ -1,4 +1,4 @@
-//! As which service of one database one of another goes on, and what it needs.
+//! Twins: the services of one database and those of another that they go on as.
 ghost use Rattle.std.specs.Prelude.{◌≡◌, ◌<◌, ◌↔◌, ℕ, length, IfNone, IfOk, IfSome, IsTrue};
 ghost use Rattle.rc_model.specs.Database.{IsDatabase};
 ghost use Rattle.rc_model.specs.Graph.{Needs};
@@ -11,7 +11,8 @@ use rc_db::Db;
 use rc_set::{NoMem, Set};
 use std::alloc::Global;
 
-/// The service of the new database as which one of the old database goes on.
+/// Returns the twin of a service of the old database: the service that it goes on as in the new
+/// one.
 pub(crate) fn twin(old: &Db, id: u16, list: &[Conversion<'_>], new: &Db) -> Option<u16>
     requires { id < length old.now.names }
     ensures found { IfSome result (IsTwin old.now new.now (conversions_of list.now) id) }
@@ -27,7 +28,7 @@ pub(crate) fn twin(old: &Db, id: u16, list: &[Conversion<'_>], new: &Db) -> Opti
     names.find_bytes(name)
 }
 
-/// Whether both are missing, or the one goes on as the other.
+/// Returns true if both services are missing, or if the first goes on as the second.
 pub(crate) fn are_twins(
     old: &Db,
     service: Option<u16>,
@@ -46,7 +47,7 @@ pub(crate) fn are_twins(
     }
 }
 
-// Whether the one goes on as the other.
+// Returns true if the first service goes on as the second.
 fn is_twin(old: &Db, id: u16, list: &[Conversion<'_>], new: &Db, other: u16) -> bool
     requires { id < length old.now.names }
     ensures { IsTrue result ↔ IsTwin old.now new.now (conversions_of list.now) id other }
@@ -57,7 +58,8 @@ fn is_twin(old: &Db, id: u16, list: &[Conversion<'_>], new: &Db, other: u16) -> 
     }
 }
 
-/// Whether what the one needs goes on as what the other needs, and nothing else is needed.
+/// Returns true if each dependency of the first service has a twin and the second depends on
+/// exactly these twins.
 pub(crate) fn need_twins(
     alloc: Global,
     old: &Db,
@@ -79,7 +81,7 @@ pub(crate) fn need_twins(
     }
 }
 
-// What a service needs.
+// Returns the direct dependencies of a service.
 fn needs_of(alloc: Global, db: &Db, id: u16) -> Result<Set, NoMem>
     requires { id < length db.now.names }
     ensures bound { IfOk result (λ set. length set ≡ length db.now.names) }
@@ -93,7 +95,7 @@ fn needs_of(alloc: Global, db: &Db, id: u16) -> Result<Set, NoMem>
     Ok(set)
 }
 
-// As what that goes on which a service needs. None: some of it goes on as nothing.
+// Returns the twins of the direct dependencies of a service, or None if one of them has no twin.
 fn needs_on(
     alloc: Global,
     old: &Db,

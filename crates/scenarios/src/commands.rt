@@ -71,8 +71,8 @@ pub(crate) fn show_commands(rt: &(impl Print + AllocGlobal)) -> Result<(), Fail>
     Ok(())
 }
 
-/// Shows what a command comes to, and what it comes to with the database in front of its input if
-/// that is something else.
+/// Shows the result of a command, and its result with the database in front of its input if that
+/// differs.
 fn show_row(rt: &(impl Print + AllocGlobal), text: &[u8], row: &Row) -> io::Result<()> {
     let (line, own) = row;
     let alone = ended(rt.alloc(), line, Some(text), own.as_bytes())?;
@@ -88,7 +88,7 @@ fn show_row(rt: &(impl Print + AllocGlobal), text: &[u8], row: &Row) -> io::Resu
     show_text(rt, &behind)
 }
 
-/// What is written and said of a fault, and the status.
+/// Runs a command, and returns its output, its fault text and its status as one text.
 fn ended(alloc: Global, line: &str, base: Option<&[u8]>, input: &[u8]) -> Result<Vec<u8>, NoMem> {
     let words = argv_of(alloc, line)?;
     let mut writer = Sink::new(alloc, None);
@@ -99,7 +99,7 @@ fn ended(alloc: Global, line: &str, base: Option<&[u8]>, input: &[u8]) -> Result
     Ok(text?.into_bytes())
 }
 
-/// The words of a command line, behind the program's name.
+/// Returns the program's name, followed by the words of a command line.
 pub(crate) fn argv_of(alloc: Global, line: &str) -> Result<Vec<String>, NoMem> {
     let mut words = words_of(alloc, &["undorc"])?;
     for word in line.split(' ') {

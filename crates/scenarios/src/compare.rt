@@ -1,12 +1,12 @@
-//! What reading bytes must come to.
+//! The result that reading bytes must have.
 
 use crate::samples::is_same;
 use rc_db::{Db, NoMem};
 use rc_dbtext::{TextFault, read_db, read_db_front, write_db};
 use std::alloc::Global;
 
-/// Whether bytes are refused, or read as a database whose text they are: the one of this text only
-/// where they are it. The front reader is asked too.
+/// Returns true if bytes are refused, or read as a database whose text they are. That is the given
+/// database exactly if the bytes are its text. Checks the front reader too.
 pub(crate) fn is_right(alloc: Global, db: &Db, text: &[u8], bytes: &[u8]) -> Result<bool, NoMem> {
     Ok(is_right_whole(alloc, db, text, bytes)? && is_right_front(alloc, bytes)?)
 }
@@ -44,7 +44,7 @@ fn is_right_front(alloc: Global, bytes: &[u8]) -> Result<bool, NoMem> {
     }
 }
 
-/// Whether so many bytes at the beginning are the text of a database.
+/// Returns true if so many bytes at the beginning are the text of a database.
 pub(crate) fn is_front_of(
     alloc: Global,
     db: &Db,
@@ -57,7 +57,7 @@ pub(crate) fn is_front_of(
     }
 }
 
-/// Whether bytes are the text of a database.
+/// Returns true if bytes are the text of a database.
 pub(crate) fn is_text_of(alloc: Global, db: &Db, bytes: &[u8]) -> Result<bool, NoMem> {
     let text = write_db(alloc, db)?;
     Ok(text.as_slice() == bytes)

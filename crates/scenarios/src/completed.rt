@@ -14,7 +14,8 @@ use std::alloc::Global;
 use std::io;
 use std::test::Fail;
 
-/// Shows the report, whether it is that of the events, and the states of the copy.
+/// Shows the report of a completed change, whether it is that of the events, and the states of the
+/// copy.
 pub(crate) fn show_completed(rt: &(impl Print + AllocGlobal)) -> Result<(), Fail> {
     let mut session = Session::new(rt.alloc(), sample(rt.alloc())?)?;
     let shown = show_change(rt, &mut session);
@@ -50,7 +51,7 @@ fn show_answer(
     }
 }
 
-/// Whether a new session reports the same of the events of a report.
+/// Returns true if a new session reports the same for the events of a report.
 fn is_by_events(alloc: Global, step: &Step, report: &Report) -> Result<bool, Fail> {
     let Step::Change(request, _) = step else {
         return Ok(false);

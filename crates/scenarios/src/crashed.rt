@@ -15,7 +15,7 @@ struct Logged {
     new: Vec<u8>,
 }
 
-/// Shows from which step on the text in the end is another, and its journal.
+/// Shows the steps from which on the text in the end is another, and the journal of each such text.
 pub(crate) fn show_crashed(rt: &(impl Print + AllocGlobal)) -> Result<(), Fail> {
     let change = logged_change(rt.alloc())?;
     let shown = show_cuts(rt, &change);
@@ -33,8 +33,8 @@ fn show_cuts(rt: &(impl Print + AllocGlobal), change: &Logged) -> Result<(), Fai
     Ok(println!(rt; "never whole")?)
 }
 
-/// Shows the journal of the text in the end where that is another than the one before, in whose
-/// place it comes. Whether the change was whole.
+/// Shows the journal of the text in the end if it differs from `before`, and puts it in place of
+/// that. Returns true if the change was whole.
 fn show_cut(
     rt: &(impl Print + AllocGlobal),
     change: &Logged,
@@ -58,7 +58,7 @@ fn show_cut(
 /// More steps than a change of the sample takes.
 const MOST_STEPS: usize = 10_000;
 
-/// A change that raises the bundle of the sample, all of which comes up.
+/// Creates a change that raises the bundle of the sample, all of which comes up.
 fn logged_change(alloc: Global) -> Result<Logged, Fail> {
     let old = text_after(alloc, "")?;
     let head = log_of(alloc, &old, "")?;
@@ -73,7 +73,7 @@ fn carry_out(files: &mut MemoryFiles, change: &Logged) -> Result<(), FileFault> 
     replace_and_empty(files, &change.new)
 }
 
-/// The files that a change leaves after so many steps, and whether it was whole then.
+/// Returns the files that a change leaves after so many steps, and whether it was whole then.
 fn cut_short(alloc: Global, change: &Logged, steps: usize) -> Result<(MemoryFiles, bool), Fail> {
     let mut files = MemoryFiles {
         alloc,
@@ -85,7 +85,7 @@ fn cut_short(alloc: Global, change: &Logged, steps: usize) -> Result<(MemoryFile
     Ok((files, whole))
 }
 
-/// Recovers within so many steps, or is cut short.
+/// Recovers within so many steps, or is cut short, which is no failure.
 fn recover(alloc: Global, files: &mut MemoryFiles, steps: usize) -> Result<(), Fail> {
     files.steps = steps;
     match recover_files(alloc, sample(alloc)?, files) {
@@ -94,8 +94,9 @@ fn recover(alloc: Global, files: &mut MemoryFiles, steps: usize) -> Result<(), F
     }
 }
 
-/// The text that the next command finds after a change of so many steps, and after recoveries of
-/// this many steps and more, of which the last is whole. And whether the change was whole.
+/// Returns the text that the next command finds after a change of so many steps, and whether the
+/// change was whole. Recoveries of `least` steps and more come before it, of which the last is
+/// whole.
 fn text_in_the_end(
     alloc: Global,
     change: &Logged,

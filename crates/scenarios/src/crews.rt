@@ -18,10 +18,10 @@ use std::test::Fail;
 use std::thread::Threads;
 use std::time::{Clock, Duration};
 
-/// For so many milliseconds a call waits where another worker can make the one that it waits for.
+/// The milliseconds that a call waits where another worker can make the one that it waits for.
 const LONG: u64 = 10_000;
 
-/// For so many it waits where there is no other worker.
+/// The milliseconds that a call waits where there is no other worker.
 const SHORT: u64 = 100;
 
 /// The deadline of a change that has a limit and begins at 0.
@@ -37,7 +37,7 @@ pub(crate) struct Meet<'a> {
 }
 
 impl Meet<'_> {
-    /// Whether the call for a job is one of these.
+    /// Returns true if the call for a job is one of those that wait for each other.
     fn has(&self, job: &Job) -> bool {
         let one = (job.service(), job.way());
         self.many > 0 && (self.who.is_empty() || self.who.contains(&one))
@@ -57,7 +57,7 @@ pub(crate) struct Meeting<'a, R: Wait> {
 }
 
 impl<'a, R: Wait + Clock> Meeting<'a, R> {
-    /// A gate whose calls wait for no others.
+    /// Creates a gate whose calls wait for no others.
     pub(crate) fn of(rt: &'a R, gate: TableGate) -> Meeting<'a, R> {
         Meeting::new(rt, gate, Meet { who: &[], many: 0 }, 0)
     }
@@ -74,12 +74,12 @@ impl<'a, R: Wait + Clock> Meeting<'a, R> {
         }
     }
 
-    /// How often the gate was asked.
+    /// Returns the number of calls of the gate.
     pub(crate) fn calls(&self) -> usize {
         self.calls.load(Ordering::SeqCst)
     }
 
-    /// Counts a call, and waits until all are there. Whether they came.
+    /// Counts a call, and waits until all are there. Returns true if they came in time.
     fn meets(&self) -> bool {
         let mut came = self.came.lock(self.rt);
         *came = came.saturating_add(1);
@@ -92,7 +92,7 @@ impl<'a, R: Wait + Clock> Meeting<'a, R> {
         !waited.timed_out()
     }
 
-    /// Whether as many calls have come as wait for each other.
+    /// Returns true if all calls that wait for each other have come.
     fn has_met(&self) -> bool {
         let came = *self.came.lock(self.rt);
         self.meet.many > 0 && came >= self.meet.many
@@ -112,7 +112,8 @@ impl<R: Wait + Clock + Sync> Gate for Meeting<'_, R> {
         self.gate.run(job)
     }
 
-    /// The moment of the gate, and the limit once all calls have come that wait for each other.
+    /// Returns the moment of the gate, or the limit once all calls that wait for each other have
+    /// come.
     fn now(&self) -> u64 {
         if self.has_met() {
             u64::from(LIMIT)
@@ -140,9 +141,9 @@ impl Seen {
         }
     }
 
-    /// Whether a gate was asked once for each take of a run, each event was followed by a look, and
-    /// one saw all events. Where services came up and none went down, one saw all up that was up in
-    /// the end.
+    /// Returns true if a gate was called once for each take of a run, each event was followed by a
+    /// look, and one look saw all events. If services came up and none went down, one look must
+    /// have seen all up that was up in the end.
     pub(crate) fn saw(&self, calls: usize, report: &Report) -> bool {
         let events = report.trace.len();
         let up = usize::from(report.opening.len()).saturating_add(report.raised.len());
@@ -167,7 +168,7 @@ impl Watch for Seen {
     }
 }
 
-/// How many services are up.
+/// Returns the number of services that are up, among the first 128.
 fn up_in(glance: &Glance) -> usize {
     let mut up = 0usize;
     for service in 0..128 {
@@ -218,7 +219,7 @@ static CREWS: [(u16, u8, u32); 6] = [
     (128, 64, LIMIT),
 ];
 
-/// Shows what changes come to whose transitions are made at the same time.
+/// Shows the results of changes whose transitions are made at the same time.
 pub(crate) fn show_crews<R: Print + AllocGlobal + Threads + Wait + Clock + Sync>(
     rt: &R,
 ) -> Result<(), Fail> {
@@ -256,7 +257,7 @@ fn show_row<R: Print + AllocGlobal + Threads + Wait + Clock + Sync>(
     Ok(shown?)
 }
 
-/// Shows a change in which many longruns come up that need nothing.
+/// Shows a change in which many longruns without dependencies come up.
 fn show_crew<R: Print + AllocGlobal + Threads + Wait + Clock + Sync>(
     rt: &R,
     services: u16,
@@ -299,7 +300,8 @@ fn show_change<R: Print + AllocGlobal + Threads + Wait + Clock + Sync>(
     shown
 }
 
-/// Where something failed, what that was is free.
+/// Prints the answer to a change. If transitions failed, prints only their number: which ones fail
+/// is free.
 fn show_answer(
     rt: &impl Print,
     workers: u8,

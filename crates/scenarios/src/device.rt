@@ -18,7 +18,7 @@ impl Sink {
         }
     }
 
-    /// What it has taken, as text.
+    /// Returns the bytes that it has taken, as text.
     pub(crate) fn text(&self) -> &str {
         str::from_utf8(&self.taken).unwrap_or("no text")
     }

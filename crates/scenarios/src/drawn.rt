@@ -30,7 +30,7 @@ const PIECES: [&str; 10] = [
     "\ndown 0\n\n",
 ];
 
-/// A database of up to twelve services and six bundles, which can be written.
+/// Draws a database of up to twelve services and six bundles, which can be written.
 pub(crate) fn drawn_db(alloc: Global, draw: &mut Draw) -> Result<Db, Fail> {
     let mut parts = parts_of(alloc, &[], &[], &[], &[])?;
     match fill(alloc, draw, &mut parts) {
@@ -42,7 +42,7 @@ pub(crate) fn drawn_db(alloc: Global, draw: &mut Draw) -> Result<Db, Fail> {
     }
 }
 
-/// Draws parts in place of none.
+/// Draws parts in place of empty ones.
 fn fill(alloc: Global, draw: &mut Draw, parts: &mut Parts) -> Result<(), Fail> {
     add_names(alloc, draw, &mut parts.names)?;
     parts.graph = drawn_graph(alloc, draw, parts.names.len())?;
@@ -90,7 +90,7 @@ fn push_service(
     Ok(())
 }
 
-/// A longrun that feeds a longrun that it needs, where there is one, half of the time.
+/// Draws a longrun. Half of the time it feeds a longrun that it needs, if there is one.
 fn drawn_longrun(draw: &mut Draw, needs: &[u16], longruns: &[u16]) -> Service {
     let fed = first_in(needs, longruns);
     let mut service = drawn_service(draw, Kind::Longrun);
@@ -98,7 +98,7 @@ fn drawn_longrun(draw: &mut Draw, needs: &[u16], longruns: &[u16]) -> Service {
     service
 }
 
-/// A service of a kind with a drawn flag and drawn limits.
+/// Draws a service of the given kind: its flag and its limits.
 fn drawn_service(draw: &mut Draw, kind: Kind) -> Service {
     let mut service = Service::plain(kind);
     service.essential = draw.below(3) == 0;
@@ -107,7 +107,7 @@ fn drawn_service(draw: &mut Draw, kind: Kind) -> Service {
     service
 }
 
-/// The first of these that is one of the others.
+/// Returns the first of the ids that is one of the others.
 fn first_in(ids: &[u16], others: &[u16]) -> Option<u16> {
     for id in ids {
         if others.contains(id) {

@@ -9,7 +9,7 @@ const BYTES: [u8; 24] = *b"\n\n 0125abdelnortz-_#/\0\xc3\xa9";
 
 const DIGITS: [u8; 10] = *b"0123456789";
 
-/// The text after one or two edits, each of one byte.
+/// Returns the text after one or two edits, each of one byte.
 pub(crate) fn edited(alloc: Global, draw: &mut Draw, text: &[u8]) -> Result<Vec<u8>, NoMem> {
     let mut bytes = Vec::from_slice(alloc, text)?;
     edit(draw, &mut bytes)?;
@@ -19,7 +19,7 @@ pub(crate) fn edited(alloc: Global, draw: &mut Draw, text: &[u8]) -> Result<Vec<
     Ok(bytes)
 }
 
-/// Puts another byte at a place, or one in before it, or takes one out.
+/// Replaces the byte at a drawn place, inserts one before it, or removes it.
 fn edit(draw: &mut Draw, bytes: &mut Vec<u8>) -> Result<(), NoMem> {
     let long = u16::try_from(bytes.len()).unwrap_or(u16::MAX);
     let place = usize::from(draw.below(long));

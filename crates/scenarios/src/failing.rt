@@ -1,4 +1,4 @@
-//! A tree in memory of which one call fails, and what the command `compile` makes of it.
+//! A tree in memory of which one call fails, and the result of the command `compile` for it.
 
 ghost use Rattle.std.specs.Prelude.{◌≡◌, ◌≤◌, IfErr, OnOk};
 ghost use Rattle.rc_source.specs.TreeFaults.{IsCallFault};
@@ -9,7 +9,7 @@ use rc_source::{MemoryTree, Tree, TreeFault};
 use std::alloc::Global;
 use std::io;
 
-/// More calls than a tree of two services is asked.
+/// More calls than a tree of two services gets.
 const MOST_CALLS: u64 = 1_000;
 
 /// A tree whose device fails once: at its first call if `left` is 0, and so on.
@@ -21,7 +21,7 @@ struct FailingTree {
 }
 
 impl FailingTree {
-    /// One call less is left before the one that fails.
+    /// Counts down the calls that are left, and fails at the first call after them.
     fn step(&mut self) -> Result<(), TreeFault>
         ensures fault { IfErr result (IsCallFault self.old.failed self.new.failed) }
         ensures count { self.old.failed ≤ self.new.failed }
@@ -89,7 +89,7 @@ impl Tree for FailingTree {
     }
 }
 
-/// Shows what is made of two services where each call of their tree fails in turn.
+/// Shows the results of compiling two services while each call of their tree fails in turn.
 pub(crate) fn show_failing(rt: &(impl Print + AllocGlobal)) -> io::Result<()> {
     for call in 0..MOST_CALLS {
         let mut trees = [FailingTree {
@@ -106,8 +106,9 @@ pub(crate) fn show_failing(rt: &(impl Print + AllocGlobal)) -> io::Result<()> {
     println!(rt; "the tree is asked without end")
 }
 
-/// Whether no call failed. Where one did, the command must end with that fault, once, and with
-/// nothing written; else it shows what is written.
+/// Compiles the tree, and returns true if no call failed. In that case prints the status and the
+/// output. If a call failed, the command must end with that fault, once, and with nothing written.
+/// Otherwise prints the status and the fault.
 fn show_call(
     rt: &(impl Print + AllocGlobal),
     trees: &mut [FailingTree],
@@ -147,7 +148,7 @@ fn failures_of(trees: &[FailingTree]) -> u64 {
     }
 }
 
-/// Whether a failure of the device is reported, of the tree or of an entry.
+/// Returns true if the text reports a failure of the device, of the tree or of an entry.
 fn is_io(text: &str) -> bool {
     matches!(text, "undorc: Io\n" | "undorc: Io a\n" | "undorc: Io b\n")
 }

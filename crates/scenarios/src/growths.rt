@@ -49,7 +49,7 @@ use std::test::Fail;
 use std::thread::Threads;
 use std::time::Clock;
 
-/// Each row.
+/// Makes the call of each row, and prints the results.
 pub fn show_growths<R: Print + AllocGlobal + Threads + Wait + Clock + Sync>(
     rt: &R,
     host: &HostRuntime,
@@ -60,7 +60,7 @@ pub fn show_growths<R: Print + AllocGlobal + Threads + Wait + Clock + Sync>(
     Ok(())
 }
 
-/// The row's call on a session over the sample.
+/// Makes the row's call on a session over the sample, and prints the result.
 fn show_row<R: Print + AllocGlobal + Threads + Wait + Clock + Sync>(
     rt: &R,
     host: &HostRuntime,
@@ -85,7 +85,8 @@ fn show_new(rt: &(impl Print + AllocGlobal), what: &str, bound: u32) -> Result<(
     Ok(show_begun(rt, what, db, bound)?)
 }
 
-/// Goes on over a database with the session's line, or with its files.
+/// Resumes the session's line over a database, or recovers the session from its files, and prints
+/// the result.
 fn show_goes_on(
     rt: &(impl Print + AllocGlobal),
     session: &Session,
@@ -102,7 +103,7 @@ fn show_goes_on(
     Ok(shown?)
 }
 
-/// The call by the row's steps.
+/// Makes the row's call by the row's steps, and prints the result.
 fn show_on<R: Print + AllocGlobal + Threads + Wait + Clock + Sync>(
     rt: &R,
     host: &HostRuntime,
@@ -133,7 +134,7 @@ fn show_on<R: Print + AllocGlobal + Threads + Wait + Clock + Sync>(
     shown
 }
 
-/// The call on a value of its own.
+/// Makes the call on a value of its own, and prints the result.
 fn show_apart(
     rt: &(impl Print + AllocGlobal),
     session: &Session,
@@ -151,7 +152,7 @@ fn show_apart(
     }
 }
 
-/// The call, and what it came to.
+/// Makes the call, and prints its name and its result.
 fn show_call<R: Print + AllocGlobal + Threads + Wait + Clock + Sync>(
     rt: &R,
     host: &HostRuntime,
@@ -170,8 +171,8 @@ fn show_call<R: Print + AllocGlobal + Threads + Wait + Clock + Sync>(
     show_came(rt, came)
 }
 
-/// What a session is in the end, beside those in which the steps before the call are played, and
-/// those by which it is made as well.
+/// Prints what the session is in the end. Compares it with a session after the steps before the
+/// call, and with one after the steps by which the call is made as well.
 fn show_left(
     rt: &(impl Print + AllocGlobal),
     session: &mut Session,
@@ -198,7 +199,7 @@ fn show_left(
     Ok(println!(rt; "{left} at {cursor} of {states}, {live} live")?)
 }
 
-/// Whether a session has the line that steps leave.
+/// Returns true if a session has the line that the given steps leave.
 fn is_left_so(alloc: Global, session: &Session, words: &str) -> Result<bool, Fail>
     requires { session.now.begun ≡ false }
 {
@@ -208,7 +209,7 @@ fn is_left_so(alloc: Global, session: &Session, words: &str) -> Result<bool, Fai
     Ok(is_same)
 }
 
-/// Whether one more edit is answered, and moves the line, as after these steps.
+/// Returns true if one more edit is answered, and moves the line, as after the given steps.
 fn goes_on_alike(alloc: Global, session: &mut Session, words: &str) -> Result<bool, Fail>
     requires { session.old.begun ≡ false }
     ensures { session.new.begun ≡ false }

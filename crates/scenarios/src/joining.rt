@@ -26,7 +26,8 @@ static ROWS: [Row; 4] = [
     ),
 ];
 
-/// Why the parts of a row are refused, which have all names of the sample.
+/// Returns the fault for which the parts of a row are refused, or none. The parts have all names of
+/// the sample.
 fn refusal(alloc: Global, row: &Row) -> Result<Option<Unfit>, Fail> {
     let (_, count, needs, bundles) = row;
     let services = SERVICES.get(..*count).unwrap_or(&SERVICES);

@@ -1,5 +1,5 @@
-//! Each list of a few events is taken exactly where the plain program says that it is legal, and
-//! who asks for a job after one is answered as that program says.
+//! Each list of a few events is taken exactly if the plain program says that it is legal. A worker
+//! that asks for a job after a list gets the answer of that program.
 
 ghost use Rattle.std.specs.Prelude.{◌≤◌};
 
@@ -13,7 +13,7 @@ use std::alloc::Global;
 use std::io;
 use std::test::Fail;
 
-/// Takes and ends of each service by workers 1 and 2, and further events.
+/// Returns the takes and ends of each service by workers 1 and 2, and further events.
 fn alphabet(alloc: Global, services: u16, further: &[Event]) -> Result<Vec<Event>, NoMem> {
     let mut events = Vec::from_slice(alloc, further)?;
     for service in 0..services {
@@ -48,8 +48,8 @@ struct Tally {
 /// Who asks: the workers of the events, another, and two that are none.
 const WORKERS: [u8; 5] = [1, 2, 64, 0, 65];
 
-/// Tries each event after each list of at most so many legal ones. A refused event changes
-/// nothing, so these are all lists.
+/// Tries each event after each list of at most so many legal ones. These are all lists, since a
+/// refused event changes nothing.
 fn try_all(alloc: Global, plain: &Plain, alphabet: &[Event], length: u32) -> Result<Tally, Fail>
     requires { plain.now.services ≤ 4096 }
 {
@@ -99,7 +99,7 @@ fn try_after(
     Ok(())
 }
 
-/// All workers ask after a list.
+/// Asks for a job in the name of each worker after a list of events.
 fn ask_all(alloc: Global, trial: &Trial, made: &[Event], tally: &mut Tally) -> Result<(), NoMem> {
     for worker in WORKERS {
         ask_one(alloc, trial, made, worker, tally)?;
@@ -107,7 +107,7 @@ fn ask_all(alloc: Global, trial: &Trial, made: &[Event], tally: &mut Tally) -> R
     Ok(())
 }
 
-/// Tries one more event after a list. True: it is legal.
+/// Tries one more event after a list, and returns true if it is legal.
 fn try_one(
     alloc: Global,
     trial: &Trial,
@@ -124,7 +124,7 @@ fn try_one(
     Ok(legal)
 }
 
-/// A worker asks after a list.
+/// Asks for a job in the name of a worker after a list of events, and counts a wrong answer.
 fn ask_one(
     alloc: Global,
     trial: &Trial,
@@ -141,8 +141,8 @@ fn ask_one(
     Ok(())
 }
 
-/// What a worker is answered after these events, or nothing where these are refused, its job is not
-/// legal, or the trace is not as it must be.
+/// Returns the answer to a worker after the given events. Returns none if these are refused, its
+/// job is not legal, or the trace is not as it must be.
 fn answered(
     alloc: Global,
     trial: &Trial,
@@ -176,8 +176,8 @@ fn answer_of(mut run: Run, plain: &Plain, made: &[Event], worker: u8) -> Option<
     (is_made && is_right).then_some(answer)
 }
 
-/// Whether a run takes one more event after these, or nothing where these are refused or
-/// its trace is not as it must be.
+/// Returns true if a run takes one more event after the given ones. Returns none if these are
+/// refused, or the trace is not as it must be.
 fn is_taken(
     alloc: Global,
     trial: &Trial,

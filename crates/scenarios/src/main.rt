@@ -84,7 +84,7 @@ fn main(rt: HostRuntime) -> Result<(), Fail> {
     show_drawn(&rt)
 }
 
-/// Whether a word follows the program's name.
+/// Returns true if a word follows the program's name.
 fn has_word(rt: &HostRuntime) -> io::Result<bool> {
     Ok(env::args(rt)?.len() > 1)
 }

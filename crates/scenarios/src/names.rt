@@ -1,4 +1,4 @@
-//! What is a name, and the words of refusals that no command tells.
+//! The texts that are names, and the words of refusals that no command prints.
 
 use rc_core::NotLegal;
 use rc_model::LineFault;
@@ -6,7 +6,8 @@ use rc_names::{Name, NameFault, NoMem};
 use std::alloc::Global;
 use std::io;
 
-/// So many times a text, and the number of the fault for which that is no name, or 0.
+/// A text, the number of times that it is repeated, and the number of the fault for which the
+/// result is no name, or 0.
 static TEXTS: [(usize, &str, u8); 26] = [
     (1, "", 1),
     (1, "web", 0),
@@ -61,7 +62,7 @@ pub(crate) fn show_names(rt: &(impl Print + AllocGlobal)) -> io::Result<()> {
     println!(rt; "texts that are names or say why not: {right}")
 }
 
-/// Whether a text is read as it must be; one that is not is shown.
+/// Returns true if a text is read as it must be. Prints one that is not.
 fn show_text(
     rt: &(impl Print + AllocGlobal),
     count: usize,
@@ -80,7 +81,8 @@ fn is_read_so(alloc: Global, count: usize, part: &str, code: u8) -> Result<bool,
     Ok(code_of(alloc, text.as_str()) == code)
 }
 
-/// A name keeps its text.
+/// Returns the number of the fault for which a text is no name, or 0 for a name that keeps its
+/// text.
 fn code_of(alloc: Global, text: &str) -> u8 {
     match Name::read(alloc, text) {
         Ok(name) => if name.text() == text { 0 } else { u8::MAX },

@@ -13,7 +13,7 @@ pub(crate) struct Plain<'a> {
     pub(crate) deadline: Option<u64>,
 }
 
-/// Whether an event may come after a list of events.
+/// Returns true if an event may come after a list of events.
 pub(crate) fn is_legal(p: &Plain, events: &[Event], event: Event) -> bool {
     match event {
         Event::Take(worker, service) => {
@@ -40,7 +40,7 @@ pub(crate) enum Asked {
     Settled,
 }
 
-/// What a worker is answered after a list of events.
+/// Returns the answer to a worker that asks for a job after a list of events.
 pub(crate) fn answer_to(p: &Plain, events: &[Event], worker: u8) -> Asked {
     if !is_worker(worker) || is_busy(p, events, worker) {
         return Asked::NotLegal;
@@ -139,7 +139,7 @@ fn can_rise(p: &Plain, events: &[Event], service: u16) -> bool {
         && has_its_needs(p, events, service)
 }
 
-/// Whether all that need a service are down.
+/// Returns true if all services that need a service are down.
 fn is_needed_by_none(p: &Plain, events: &[Event], service: u16) -> bool {
     for (s, t) in p.needs {
         if *t == service && standing(p, events, *s) != Standing::Down {
@@ -149,7 +149,7 @@ fn is_needed_by_none(p: &Plain, events: &[Event], service: u16) -> bool {
     true
 }
 
-/// Whether all that a service needs is up.
+/// Returns true if all that a service needs is up.
 fn has_its_needs(p: &Plain, events: &[Event], service: u16) -> bool {
     for (s, t) in p.needs {
         if *s == service && standing(p, events, *t) != Standing::Up {

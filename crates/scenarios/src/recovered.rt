@@ -37,7 +37,7 @@ static ROWS: [Row; 6] = [
     ("an event that no run has", "take 1 web\n"),
 ];
 
-/// Shows what each row is entered as.
+/// Shows the report and the journal that each row is entered as.
 pub(crate) fn show_recovered(rt: &(impl Print + AllocGlobal)) -> Result<(), Fail> {
     for row in &ROWS {
         show_row(rt, row)?;
@@ -53,7 +53,8 @@ fn show_row(rt: &(impl Print + AllocGlobal), row: &Row) -> Result<(), Fail> {
     show_entered(rt, recover_text(alloc, sample(alloc)?, &text, &log))
 }
 
-/// The text of a session over the sample in which the steps that these words say are played.
+/// Returns the text of a session over the sample, in which the steps that the given words say are
+/// played.
 pub(crate) fn text_after(alloc: Global, words: &str) -> Result<Vec<u8>, Fail> {
     let session = session_after(alloc, words)?;
     let text = write_live(alloc, &session);
@@ -61,7 +62,7 @@ pub(crate) fn text_after(alloc: Global, words: &str) -> Result<Vec<u8>, Fail> {
     Ok(text?)
 }
 
-/// The run log of a change from a text, with these lines of events.
+/// Returns the run log of a change from a text, with the given lines of events.
 pub(crate) fn log_of(alloc: Global, text: &[u8], events: &str) -> Result<Vec<u8>, NoMem> {
     let mut log = Vec::from_slice(alloc, text)?;
     log.extend_from_slice(LINE.as_bytes())?;
@@ -88,13 +89,13 @@ pub(crate) fn show_text(rt: &impl Print, text: &[u8]) -> io::Result<()> {
     print!(rt; "{}", str::from_utf8(text).unwrap_or("no text"))
 }
 
-/// The journal of a text.
+/// Shows the journal of a text.
 pub(crate) fn show_journal(rt: &(impl Print + AllocGlobal), text: &[u8]) -> Result<(), Fail> {
     let journal = journal_of(rt.alloc(), text)?;
     Ok(show_text(rt, &journal)?)
 }
 
-/// The journal of a text, or the line of the fault that refuses it.
+/// Returns the journal of a text. Fails with the fault that refuses the text.
 fn journal_of(alloc: Global, text: &[u8]) -> Result<Vec<u8>, Fail> {
     let db = sample(alloc)?;
     let journal = match read_live(alloc, text, &db) {

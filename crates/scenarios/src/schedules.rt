@@ -1,5 +1,5 @@
-//! Carries drawn changes out in many orders, with drawn transitions that fail, and prints how many
-//! ended as the plain rules say that what fails makes them end, whatever the order.
+//! Carries drawn changes out in many orders, with drawn transitions that fail. Prints how many end
+//! as the plain rules say: by what fails, whatever the order.
 
 use crate::samples::{Change, Draw, End, carry_out, end_of};
 use rc_core::Finish;
@@ -70,7 +70,8 @@ fn show_tally(rt: &impl Print, tally: &Tally) -> io::Result<()> {
     )
 }
 
-/// Notes what kinds of ends there were, so that it can be seen that the draws are not all alike.
+/// Notes the kinds of ends that there were, so that it can be seen that the draws are not all
+/// alike.
 fn note_kinds(tally: &mut Tally, change: &Change, end: &End) {
     tally.failed |= !end.failed.is_empty();
     tally.blocked |= !end.left.is_empty();
@@ -78,7 +79,7 @@ fn note_kinds(tally: &mut Tally, change: &Change, end: &End) {
     tally.raised |= has_another(&end.live, &change.up);
 }
 
-/// Whether one of these ids is none of the others.
+/// Returns true if one of the ids is none of the others.
 fn has_another(ids: &[u16], others: &[u16]) -> bool {
     for id in ids {
         if !others.contains(id) {
@@ -88,7 +89,7 @@ fn has_another(ids: &[u16], others: &[u16]) -> bool {
     false
 }
 
-/// Carries a change out in several orders, each by another number of workers.
+/// Carries a change out in several orders, each by a drawn number of workers.
 fn try_orders(
     alloc: Global,
     draw: &mut Draw,
@@ -108,7 +109,7 @@ fn try_orders(
     Ok(())
 }
 
-/// Whether a run came to this end.
+/// Returns true if a run came to the given end.
 fn ends_so(alloc: Global, finish: Option<Finish>, end: &End) -> Result<bool, NoMem> {
     match finish {
         Some(finish) => {

@@ -17,7 +17,7 @@ pub(crate) fn show_sets(rt: &(impl Print + AllocGlobal)) -> io::Result<()> {
     Ok(())
 }
 
-/// Whether a set takes each id below a bound as a new one, and then has them all.
+/// Returns true if a set takes each id below a bound as a new one, and then has them all.
 fn is_whole(alloc: Global, bound: u16) -> Result<bool, NoMem> {
     let mut set = Set::empty(alloc, bound.min(4096))?;
     let is_whole = takes_all(&mut set) && set.len() == bound;
@@ -26,7 +26,7 @@ fn is_whole(alloc: Global, bound: u16) -> Result<bool, NoMem> {
     Ok(are_listed? && is_whole)
 }
 
-/// Whether all ids are new to a set.
+/// Inserts all ids into a set, and returns true if each was new.
 fn takes_all(set: &mut Set) -> bool {
     let many = set.bound();
     let mut are_new = true;
@@ -36,7 +36,7 @@ fn takes_all(set: &mut Set) -> bool {
     are_new
 }
 
-/// Whether a set has all ids below a bound, and the last goes out and comes back in.
+/// Returns true if a set has all ids below a bound, and its last id goes out and comes back in.
 fn are_listed(alloc: Global, set: &mut Set, bound: u16) -> Result<bool, NoMem> {
     let ids = set.ids(alloc)?;
     let are_all = are_below(&ids, bound);
@@ -45,7 +45,7 @@ fn are_listed(alloc: Global, set: &mut Set, bound: u16) -> Result<bool, NoMem> {
     Ok(are_all && comes_back(set, &all))
 }
 
-/// Whether these are all ids below a bound, ascending.
+/// Returns true if the ids are all those below a bound, ascending.
 pub(crate) fn are_below(ids: &[u16], bound: u16) -> bool {
     for (id, found) in (0..bound).zip(ids) {
         if *found != id {
@@ -55,7 +55,8 @@ pub(crate) fn are_below(ids: &[u16], bound: u16) -> bool {
     ids.len() == usize::from(bound)
 }
 
-/// Whether a set is the same again when its last id has gone out and come back in.
+/// Removes the last id of a set and inserts it again. Returns true if the set is the same again
+/// then.
 fn comes_back(set: &mut Set, all: &Set) -> bool
     requires { length all.now ≡ length set.old }
 {

@@ -9,7 +9,7 @@ pub(crate) fn make(run: &mut Run, events: &[Event]) -> Result<(), NotLegal> {
     Ok(())
 }
 
-/// Whether each of these events is refused, and leaves the trace as it is.
+/// Returns true if each of the events is refused, and leaves the trace as it is.
 pub(crate) fn refuses(run: &mut Run, events: &[Event]) -> bool {
     let before = run.trace().len();
     for event in events {

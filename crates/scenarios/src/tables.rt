@@ -10,7 +10,8 @@ use std::test::Fail;
 /// Letters of which there are as many pairs as there may be bundles.
 const LETTERS: &str = "ABCDEFGHIJKLMNOPQRSTUVWXYZabcdefghijklmnopqrstuvwxyz0123456789_.";
 
-/// Shows whether the copy is the same, and the text of the sample, as it is read and written.
+/// Shows whether the copy of a table is the same, and the text of the sample, as it is read and
+/// written.
 pub(crate) fn show_tables(rt: &(impl Print + AllocGlobal)) -> Result<(), Fail> {
     let mut table = Table::new(rt.alloc());
     let is_copied = is_copied(rt.alloc(), &mut table);
@@ -34,7 +35,7 @@ fn is_copied(alloc: Global, table: &mut Table) -> Result<bool, NoMem> {
     Ok(is_copied)
 }
 
-/// Puts in a bundle of one service, whose name is two letters.
+/// Puts a bundle of one service into a table. Its name is two letters.
 fn put_pair(alloc: Global, table: &mut Table, first: char, second: char) -> Result<(), NoMem> {
     if table.len() >= MAX_BUNDLES {
         return Ok(());
@@ -45,13 +46,13 @@ fn put_pair(alloc: Global, table: &mut Table, first: char, second: char) -> Resu
     put(alloc, table, text.as_str(), set_of(alloc, 5, &[2])?)
 }
 
-/// Whether a copy is the same, and no more once its last bundle is out.
+/// Returns true if a copy is the same, and no longer once its last bundle is removed.
 fn comes_apart(table: &Table, copied: &mut Table) -> bool {
     let is_same = table.len() == 4096 && copied.len() == 4096 && copied.same(table);
     is_same && copied.clear("zz").is_some() && !copied.same(table)
 }
 
-/// Shows the text of a database, read and written once more.
+/// Shows the text of a database after it is read and written once more.
 fn show_read_back(rt: &(impl Print + AllocGlobal), db: &Db) -> Result<(), Fail> {
     let text = write_db(rt.alloc(), db)?;
     match read_db(rt.alloc(), &text) {

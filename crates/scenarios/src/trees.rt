@@ -23,7 +23,7 @@ const CIRCLE: &str = "a/dependencies=b b/dependencies=c c/dependencies=a";
 const BUNDLES: &str = "a/dependencies=g \
     g/type=bundle g/contents=h\nb h/type=bundle h/contents=c";
 
-/// The same, and the last needs the first.
+/// The files of `BUNDLES`, and the last oneshot needs the first.
 const ROUND: &str = "a/dependencies=g c/dependencies=a \
     g/type=bundle g/contents=h\nb h/type=bundle h/contents=c";
 
@@ -107,8 +107,8 @@ static ROWS: [Row; 25] = [
     ),
 ];
 
-/// Shows what is made of the files over writers whose flush does well or not, and of an empty
-/// directory.
+/// Shows the results of compiling the files of each row, and an empty directory, over writers whose
+/// flush succeeds or fails.
 pub(crate) fn show_trees(rt: &(impl Print + AllocGlobal)) -> io::Result<()> {
     for row in &ROWS {
         show_row(rt, row)?;
@@ -141,7 +141,8 @@ fn show_filled(
     shown
 }
 
-/// The status. What the command promises stands on its contract, so none of it is asked here.
+/// Compiles trees, and returns the status. The contract of the command says what it promises, so
+/// nothing of that is checked here.
 pub(crate) fn compiled<T: Tree>(
     alloc: Global,
     trees: &mut [T],

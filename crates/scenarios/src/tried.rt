@@ -1,5 +1,5 @@
-//! Drawn databases: each is written, read back, and what is left of its text after edits of single
-//! bytes is read.
+//! Drawn databases: each is written and read back, and its text is read after edits of single
+//! bytes.
 
 use crate::compare::is_right;
 use crate::drawn::drawn_db;
@@ -26,7 +26,7 @@ struct Tally {
     others: u32,
 }
 
-/// What comes of all databases.
+/// Tries all drawn databases, and prints the results.
 pub(crate) fn show_drawn(rt: &(impl Print + AllocGlobal)) -> Result<(), Fail> {
     let mut draw = Draw::new(SEED);
     let mut tally = Tally {
@@ -51,7 +51,7 @@ fn show_tally(rt: &impl Print, tally: &Tally) -> io::Result<()> {
     )
 }
 
-/// What comes of one drawn database.
+/// Draws a database, tries it, and counts the results.
 fn try_one(alloc: Global, draw: &mut Draw, tally: &mut Tally) -> Result<(), Fail> {
     let db = drawn_db(alloc, draw)?;
     let tried = try_db(alloc, draw, &db, tally);
@@ -69,7 +69,7 @@ fn try_db(alloc: Global, draw: &mut Draw, db: &Db, tally: &mut Tally) -> Result<
     Ok(())
 }
 
-/// What comes of a drawn edit of a text.
+/// Tries a drawn edit of a text, and counts the result.
 fn try_edit(
     alloc: Global,
     draw: &mut Draw,

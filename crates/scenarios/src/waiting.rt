@@ -34,7 +34,7 @@ const FAILED: [Event; 6] = [
     Event::Done(1, NET, Outcome::Failed(1)),
 ];
 
-/// Under which deadline calls are made after `HELD`, and the calls, each with its name.
+/// The deadline under which calls are made after `HELD`, and the calls, each with its name.
 type Scene = (Option<u64>, &'static [(&'static str, Ask)]);
 
 static SCENES: [Scene; 2] = [
@@ -100,7 +100,7 @@ fn show_run(rt: &impl Print, mut run: Run) -> io::Result<()> {
     }
 }
 
-/// The end of a run that is settled.
+/// Returns the end of a run that is settled. Returns none for any other run.
 fn finish_of(run: Run) -> Option<Finish> {
     if run.settled() {
         Some(run.finish().take_apart())
@@ -110,7 +110,8 @@ fn finish_of(run: Run) -> Option<Finish> {
     }
 }
 
-/// Two take a service each, and a third has to wait. Once both are up, one takes the others.
+/// Shows two workers that take a service each, and a third that has to wait. Once both services are
+/// up, one worker takes the others.
 fn show_workers(rt: &impl Print, run: &mut Run) -> io::Result<()> {
     let (first, second) = (run.take(1), run.take(2));
     show_two(rt, word(&first), word(&second))?;
@@ -125,7 +126,8 @@ fn show_workers(rt: &impl Print, run: &mut Run) -> io::Result<()> {
     Ok(())
 }
 
-/// Which of two workers took which service is free.
+/// Prints the services that two workers took, in the order of their names: which worker took which
+/// is free.
 fn show_two(rt: &impl Print, one: &str, other: &str) -> io::Result<()> {
     if one <= other {
         println!(rt; "two workers: {one}, {other}")
@@ -134,7 +136,7 @@ fn show_two(rt: &impl Print, one: &str, other: &str) -> io::Result<()> {
     }
 }
 
-/// What a worker gets that asks for a job.
+/// Returns the word for the answer to a worker that asks for a job.
 fn word(took: &Result<Took, NotLegal>) -> &'static str {
     match took {
         Ok(Took::Job(job)) => SERVICES
@@ -154,7 +156,7 @@ fn end(run: &mut Run, took: Result<Took, NotLegal>) {
     }
 }
 
-/// Shows what calls are answered where log and root are held, and how many events there are then.
+/// Shows the answers to calls while log and root are held, and the number of events then.
 fn show_asks(rt: &impl Print, mut run: Run, asks: &[(&str, Ask)]) -> io::Result<()> {
     let is_held = make(&mut run, &HELD).is_ok();
     for (what, ask) in asks {
@@ -165,7 +167,7 @@ fn show_asks(rt: &impl Print, mut run: Run, asks: &[(&str, Ask)]) -> io::Result<
     println!(rt; "{events} events, as they were: {}", is_held && is_front)
 }
 
-/// What a call is answered.
+/// Makes a call, and returns the word for its answer.
 fn answer(run: &mut Run, ask: &Ask) -> &'static str {
     let made = match ask {
         Ask::Take(worker) => return word(&run.take(*worker)),
@@ -175,7 +177,7 @@ fn answer(run: &mut Run, ask: &Ask) -> &'static str {
     if made.is_ok() { "made" } else { "not legal" }
 }
 
-/// Shows the end of a run in which a service fails that two others need.
+/// Shows the end of a run in which a service that two others need fails.
 fn show_failure(rt: &impl Print, mut run: Run) -> io::Result<()> {
     let is_made = make(&mut run, &FAILED).is_ok();
     let is_right = match finish_of(run) {
@@ -185,7 +187,8 @@ fn show_failure(rt: &impl Print, mut run: Run) -> io::Result<()> {
     println!(rt; "net fails, so db and web are left: {is_right}")
 }
 
-/// Whether log and root are live, net has failed, db and web were left, and nothing was stopped.
+/// Returns true if log and root are live, net has failed, db and web were left, and nothing was
+/// stopped.
 fn is_blocked(finish: &Finish) -> bool {
     let live = &finish.live;
     live.len() == 2

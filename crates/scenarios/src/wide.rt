@@ -18,7 +18,7 @@ const WIDE: [Event; 4] = [
     Event::Done(64, 4095, Outcome::Ok),
 ];
 
-/// What may not come then.
+/// The events that may not come then.
 const AFTER_WIDE: [Event; 2] = [Event::Take(64, 4095), Event::Take(64, 4096)];
 
 pub(crate) fn show_wide(rt: &(impl Print + AllocGlobal)) -> Result<(), Fail> {
@@ -35,13 +35,13 @@ fn show_fan(rt: &(impl Print + AllocGlobal), graph: &Graph) -> io::Result<()> {
     println!(rt; "as many services as there may be, all of them: {is_whole}, planned: {is_planned}")
 }
 
-/// All that need the first service, with it.
+/// Returns all services that need the first one, and the first one.
 fn whole_fan(alloc: Global, graph: &Graph) -> Result<Vec<u16>, NoMem> {
     let first = set_of(alloc, graph.len(), &[0])?;
     graph.down_of(alloc, &first)?.ids(alloc)
 }
 
-/// Whether all services of the fan rise after the first.
+/// Returns true if all services of the fan rise after the first.
 fn is_planned(alloc: Global, graph: &Graph, all: &[u16]) -> Result<bool, NoMem> {
     match run_between(alloc, graph, &[], all, None)? {
         Some(run) => Ok(rises(run)),

@@ -1,5 +1,4 @@
-//! Commands on the file of a session: their files are opened, they are carried out, and people are
-//! told what helps.
+//! Commands on the file of a session: opens their files, carries them out, and prints what helps.
 ghost use Rattle.rc_streams.specs.Noting.{HasFailed};
 
 use crate::history;
@@ -22,7 +21,7 @@ use std::io;
 use std::sync::Wait;
 use std::thread::Threads;
 
-/// Carries a command out, whose database is that of a file, and returns the status.
+/// Carries a command out on the database of a file, and returns the status.
 pub fn carry_out<'a, T: Threads + Wait + Sync>(
     rt: &'a HostRuntime,
     threads: &T,
@@ -41,7 +40,7 @@ pub fn carry_out<'a, T: Threads + Wait + Sync>(
     }
 }
 
-/// The same on the files that were opened for it.
+/// Carries a command out on the files that were opened for it, and returns the status.
 fn carry_out_on<'x, T: Threads + Wait + Sync>(
     rt: &'x HostRuntime,
     threads: &'x T,
@@ -70,7 +69,7 @@ fn carry_out_on<'x, T: Threads + Wait + Sync>(
     status
 }
 
-/// Removes the files of the runs of a command that is over, and tells where the log could not be
+/// Removes the files of the runs of a command that is over, and warns if the log could not be
 /// written. The lock is still held.
 fn close(rt: &HostRuntime, opened: &Opened<'_>) {
     if let Some(runs) = opened.runs() {
@@ -96,7 +95,7 @@ fn enter(rt: &HostRuntime, opened: &Opened<'_>, status: u8) {
     }
 }
 
-/// Whether the line shows the journal.
+/// Returns true if the line shows the journal.
 fn is_journal(command: &SessionCommand<'_>) -> bool {
     match command {
         SessionCommand::Line(request) => {
@@ -106,7 +105,7 @@ fn is_journal(command: &SessionCommand<'_>) -> bool {
     }
 }
 
-/// Devices that have not failed yet, with standard error for faults.
+/// Creates devices that have not failed yet, with standard error for faults.
 fn devices_of<R, W, S: Store>(
     rt: &HostRuntime,
     reader: R,
@@ -126,13 +125,13 @@ fn devices_of<R, W, S: Store>(
     }
 }
 
-/// The store of outputs that are written no more.
+/// Returns the store of outputs that are no longer written.
 fn store_in<W: Drop, S: Store>(outputs: Outputs<W, S>) -> S {
     let Outputs { writer: _, keeper } = outputs;
     keeper.into_store()
 }
 
-/// The input that is read before the command, as the prompt at a terminal names it.
+/// Returns the name of the input that is read before the command, for the prompt at a terminal.
 fn reads(opened: &Opened<'_>) -> Option<&'static str> {
     if opened.base().is_some() {
         return None;
@@ -143,7 +142,7 @@ fn reads(opened: &Opened<'_>) -> Option<&'static str> {
     Some("the database")
 }
 
-/// The bytes of the file of `-b`, if one is named.
+/// Returns the bytes of the database of a command, if one is named.
 fn base_in<'a>(opened: &'a Opened<'_>) -> Option<&'a [u8]> {
     match opened.base() {
         Some(base) => Some(base.bytes()),
@@ -151,7 +150,7 @@ fn base_in<'a>(opened: &'a Opened<'_>) -> Option<&'a [u8]> {
     }
 }
 
-/// Tells what helps after the answers of a command that read this input, and after its faults.
+/// Prints what helps after the answers of a command that read this input, and after its faults.
 fn tell_hints(
     rt: &HostRuntime,
     opened: &Opened<'_>,
@@ -169,8 +168,8 @@ fn tell_hints(
     }
 }
 
-/// The database of which a fault may be: that of the command; of an update the old one, and where
-/// that is right the new one.
+/// Returns the database that a fault may belong to: that of the command. For an update it is the
+/// old one, or the new one if the old one is good and the new one is not.
 fn seen_of<'a>(
     rt: &HostRuntime,
     opened: &'a Opened<'_>,

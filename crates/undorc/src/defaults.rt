@@ -1,4 +1,4 @@
-//! The files of `-b` and `-l`, and the programs of `-r` and `-c`, where the words name none: the
+//! The files of `-b` and `-l`, and the programs of `-r` and `-c`, if the arguments name none: the
 //! environment's UNDORC_DB, UNDORC_LIVE, UNDORC_RUNNER and UNDORC_CONTROLLER.
 use rc_args::{Defaults, Invocation, Making, Once, SessionCommand, SessionRequest};
 use rc_script::SessionLine;
@@ -16,8 +16,9 @@ pub struct DefaultTexts {
 }
 
 impl DefaultTexts {
-    /// The texts that they name. For a variable that is no text its own name stands behind a NUL,
-    /// which no word of a command line has, and `unread_in` says whether an invocation uses it.
+    /// Returns the texts that the variables name. For a variable that is no text, its own name
+    /// stands behind a NUL, which no argument has. `unread_in` then finds whether an invocation
+    /// uses it.
     pub fn texts(&self) -> io::Result<Defaults<'_>> {
         Ok(Defaults {
             base: named(&self.base, "\0UNDORC_DB")?,
@@ -28,7 +29,7 @@ impl DefaultTexts {
     }
 }
 
-/// Reads these variables.
+/// Reads the variables of the defaults.
 pub fn defaults_at(rt: &HostRuntime) -> DefaultTexts {
     DefaultTexts {
         base: env::var(rt, "UNDORC_DB"),
@@ -38,7 +39,7 @@ pub fn defaults_at(rt: &HostRuntime) -> DefaultTexts {
     }
 }
 
-/// What a variable names. One that is empty names nothing.
+/// Returns the text that a variable names. An empty variable names nothing.
 fn named<'a>(
     read: &'a Result<String, VarError>,
     unread: &'static str,
@@ -52,7 +53,7 @@ fn named<'a>(
     }
 }
 
-/// A variable that an invocation uses and that is no text, if there is one.
+/// Returns a variable that an invocation uses and that is no text, if there is one.
 pub fn unread_in(invocation: &Invocation<'_>) -> Option<&'static str> {
     match invocation {
         Invocation::Compile(_) | Invocation::Version => None,
@@ -65,7 +66,8 @@ pub fn unread_in(invocation: &Invocation<'_>) -> Option<&'static str> {
     }
 }
 
-/// The same of a session, which runs scripts or not.
+/// Returns a variable that a session uses and that is no text, if there is one. `runs` says whether
+/// the session runs scripts.
 fn unread_of(session: &SessionRequest<'_>, base: Option<&str>, runs: bool) -> Option<&'static str> {
     let files = unread(base).or(unread(session.live));
     match &session.making {
@@ -76,7 +78,7 @@ fn unread_of(session: &SessionRequest<'_>, base: Option<&str>, runs: bool) -> Op
     }
 }
 
-/// Whether a command may run scripts.
+/// Returns true if a command may run scripts.
 fn runs_scripts(command: &SessionCommand<'_>) -> bool {
     match command {
         SessionCommand::Lines(_) | SessionCommand::Restart(_) => true,
@@ -86,7 +88,7 @@ fn runs_scripts(command: &SessionCommand<'_>) -> bool {
     }
 }
 
-/// Whether a line may run scripts.
+/// Returns true if a line may run scripts.
 fn is_run(once: &Once) -> bool {
     matches!(
         once,
@@ -94,7 +96,7 @@ fn is_run(once: &Once) -> bool {
     )
 }
 
-/// The variable that stands in a place, if it is no text.
+/// Returns the variable that stands in a place, if it is no text.
 fn unread(named: Option<&str>) -> Option<&'static str> {
     match named? {
         "\0UNDORC_DB" => Some("UNDORC_DB"),

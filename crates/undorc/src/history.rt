@@ -1,5 +1,5 @@
-//! The file of who did what and when: `FILE.log` beside `FILE`, where it is there. Each command
-//! that altered the session appends a line, while it has the lock.
+//! The file of who did what and when: `FILE.log` beside `FILE`, if it exists. Each command that
+//! altered the session appends a line, while it has the lock.
 
 use crate::own_name::words;
 use jiff::Timestamp;
@@ -11,8 +11,8 @@ use rc_streams::messages::{MESSAGE, Messages};
 use std::fs::File;
 use std::io::{self, Write};
 
-/// Appends a line for this command, which ends with this status, where the log is there and the
-/// text of the session is another one than before. Tells why a line can't be written.
+/// Appends a line for this command, which ends with this status, if the log exists and the text of
+/// the session has changed. Warns if the line can't be written.
 pub fn enter(rt: &HostRuntime, path: &str, before: Option<&[u8]>, status: u8) {
     let Ok(live) = LiveText::read(rt, Some(path)) else {
         return;
@@ -24,7 +24,8 @@ pub fn enter(rt: &HostRuntime, path: &str, before: Option<&[u8]>, status: u8) {
     drop(live);
 }
 
-/// The same of a command that leaves the session at the state of this number.
+/// Appends a line for a command that leaves the session at the state of this number, if the log
+/// exists. Warns if the line can't be written.
 fn enter_at(rt: &HostRuntime, path: &str, status: u8, at: usize) {
     let entered = match command_log::open(rt, path) {
         Ok(Some(file)) => {
@@ -41,7 +42,7 @@ fn enter_at(rt: &HostRuntime, path: &str, status: u8, at: usize) {
     }
 }
 
-/// Appends the line of this command. Where it can't be written whole, nothing of it stays.
+/// Appends the line of this command. If it can't be written whole, nothing of it stays.
 fn append(rt: &HostRuntime, file: &File, status: u8, at: usize) -> io::Result<()> {
     let words = words(rt)?;
     let line = line_of(rt, &words, status, at);
@@ -63,7 +64,8 @@ fn write_whole(file: &File, bytes: &[u8]) -> io::Result<()> {
     written
 }
 
-/// The line of a command: when, by whom, with which status, at which state, and its words.
+/// Returns the line of a command: the state, the time, the user, the status, and the words of the
+/// command.
 fn line_of(rt: &HostRuntime, words: &[String], status: u8, at: usize) -> Result<String, NoMem> {
     let now = now_of(rt);
     let user = libc::getuid();
@@ -87,7 +89,7 @@ fn add_words(line: &mut String, words: &[String]) -> Result<(), NoMem> {
     line.push('\n')
 }
 
-/// The moment, in whole seconds.
+/// Returns the present moment, in whole seconds.
 fn now_of(rt: &HostRuntime) -> Timestamp {
     match Timestamp::now(rt) {
         Ok(now) => Timestamp::from_second(now.as_second()).unwrap_or(now),
@@ -95,7 +97,7 @@ fn now_of(rt: &HostRuntime) -> Timestamp {
     }
 }
 
-/// Whether a word can be shown as it is.
+/// Returns true if a word can be shown as it is.
 fn is_plain(word: &str) -> bool {
     for byte in word.bytes() {
         if !byte.is_ascii_graphic() || byte == b'"' {
@@ -105,7 +107,7 @@ fn is_plain(word: &str) -> bool {
     !word.is_empty()
 }
 
-/// The number of the current state in the text of a session.
+/// Returns the number of the current state in the text of a session.
 fn current_of(text: &[u8]) -> usize {
     let mut number = 0;
     for line in text.split(|byte| *byte == b'\n') {
@@ -119,7 +121,7 @@ fn current_of(text: &[u8]) -> usize {
     number
 }
 
-/// Prints the log, where it is there.
+/// Prints the log, if it exists.
 pub fn show(rt: &HostRuntime, path: &str) -> io::Result<()> {
     let Some(text) = command_log::read(rt, path)? else {
         return Ok(());

@@ -76,7 +76,7 @@ fn asked<'a>(
     }
 }
 
-/// Tells help on standard output, and why the words ask nothing on standard error. Returns the
+/// Prints help on standard output, or the fault of the arguments on standard error. Returns the
 /// status.
 fn tell_wrong(rt: &HostRuntime, fault: &WordsFault) -> u8 {
     if asks_help(fault) {
@@ -85,7 +85,7 @@ fn tell_wrong(rt: &HostRuntime, fault: &WordsFault) -> u8 {
     tell_words(&mut Escaped::of_text(rt.stderr()), fault)
 }
 
-/// Prints which version this is.
+/// Prints the version, and returns the status.
 fn version(rt: &HostRuntime) -> u8 {
     if rt.println(VERSION).is_err() {
         return tell_failure(rt, "Write");
@@ -93,7 +93,7 @@ fn version(rt: &HostRuntime) -> u8 {
     0
 }
 
-/// Tells why the words of the command line could not be read, and returns the status.
+/// Reports why the arguments could not be read, and returns the status.
 fn tell(rt: &HostRuntime, error: &io::Error) -> u8 {
     if error.kind() == ErrorKind::InvalidData {
         return tell_unread(rt, "a word of the command line");
@@ -101,7 +101,7 @@ fn tell(rt: &HostRuntime, error: &io::Error) -> u8 {
     tell_failure(rt, "Memory")
 }
 
-/// Tells what is no text, and returns the status.
+/// Reports what is no text, and returns the status.
 fn tell_unread(rt: &HostRuntime, what: &str) -> u8 {
     error!(Messages(rt); target: MESSAGE, "{what} is not UTF-8");
     WRONG_LINE

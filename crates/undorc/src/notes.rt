@@ -10,7 +10,7 @@ use rc_streams::messages::{HINT, MESSAGE, Messages};
 use rc_streams::run_file;
 use std::io;
 
-/// Tells what was found beside the file of a session.
+/// Prints what was found beside the file of a session.
 pub fn tell_note(rt: &HostRuntime, note: &Note<'_>) {
     match note {
         Note::Nothing | Note::Logged(_) => {}
@@ -26,8 +26,8 @@ pub fn tell_note(rt: &HostRuntime, note: &Note<'_>) {
     }
 }
 
-/// Reports a file of `-b` that is not used, since the session has a database of its own, and an
-/// update that was cut short, where the command takes nothing of it back.
+/// Reports a file of `-b` that is not used because the session has a database of its own. Also
+/// reports an update that was cut short, if the command takes nothing of it back.
 pub fn tell_session(rt: &HostRuntime, opened: &Opened<'_>) {
     if let Some(path) = opened.unused_base() {
         info!(Messages(rt); target: MESSAGE,
@@ -39,7 +39,7 @@ pub fn tell_session(rt: &HostRuntime, opened: &Opened<'_>) {
     }
 }
 
-/// Whether a command goes on from a state that is passed, and makes it one to stop at.
+/// Returns true if a command goes on from a state that is passed, and makes it one to stop at.
 fn goes_on_from(command: &SessionCommand<'_>) -> bool {
     match command {
         SessionCommand::Line(request) => matches!(
@@ -53,7 +53,7 @@ fn goes_on_from(command: &SessionCommand<'_>) -> bool {
     }
 }
 
-/// Tells what was moved of which the session does not know, since its file could not be written or
+/// Prints what was moved but the session does not have, because its file could not be written or
 /// memory ran out.
 pub fn tell_left(rt: &HostRuntime, opened: &Opened<'_>) {
     if let (Some(runs), Some(base)) = (opened.runs(), opened.base()) {
@@ -63,7 +63,7 @@ pub fn tell_left(rt: &HostRuntime, opened: &Opened<'_>) {
     }
 }
 
-/// Tells what a run log leaves for the next command to enter.
+/// Prints what a run log leaves for the next command to enter.
 fn tell_log(rt: &HostRuntime, path: &str, base: &FileText<'_>) {
     let Ok(live) = LiveText::read(rt, Some(path)) else {
         return;
@@ -79,7 +79,7 @@ fn tell_log(rt: &HostRuntime, path: &str, base: &FileText<'_>) {
     drop(live);
 }
 
-/// Tells the lines of a report, but for the last one, which is that of an answer.
+/// Prints the lines of a report, except for the last one, which is that of an answer.
 fn tell_report(rt: &HostRuntime, report: &[u8]) {
     if let Ok(lines) = str::from_utf8(report) {
         for line in lines.trim_end_matches("ok\n").lines() {
@@ -88,7 +88,7 @@ fn tell_report(rt: &HostRuntime, report: &[u8]) {
     }
 }
 
-/// Tells why the files of a command were not opened, and returns the status.
+/// Reports why the files of a command were not opened, and returns the status.
 pub fn tell_opening(rt: &HostRuntime, fault: &OpenFault<'_>) -> u8 {
     match fault {
         OpenFault::Unfit(unfit) => tell_inherited(rt, *unfit),
@@ -142,7 +142,7 @@ fn tell_beside(rt: &HostRuntime, path: &str, ending: &str, error: &io::Error) ->
     }
 }
 
-/// Tells that a log can't be entered, and returns the status.
+/// Reports that a log can't be entered, and returns the status.
 fn tell_unfit(rt: &HostRuntime, path: &str, why: &str) -> u8 {
     let status = tell_failure(rt, "Unrecovered");
     info!(Messages(rt); target: HINT, "{path}.run {why}");

@@ -1,5 +1,5 @@
-//! The words of the command line, with the program's own name as the first. The path by which it
-//! was started need not be a text.
+//! The arguments, with the program's own name as the first. The path by which the program was
+//! started need not be a text.
 use std::env::{self, Env, FillError};
 use std::io;
 
@@ -40,7 +40,7 @@ impl<E: Env> Env for OwnName<'_, E> {
     }
 }
 
-/// The words of the command line, the first of them the program's own name.
+/// Returns the arguments, with the program's own name as the first.
 pub fn words(rt: &HostRuntime) -> io::Result<Vec<String>> {
     let words = env::args(&(OwnName::new(rt), rt.alloc()))?;
     Ok(words.collect(rt.alloc())?)

@@ -1,4 +1,4 @@
-//! `stop`: the command that goes on with a session is called off.
+//! `stop`: calls off the command that goes on with a session.
 
 use log::info;
 use rc_launch::frontend::tell_file;
@@ -6,8 +6,8 @@ use rc_streams::ending::{DONE, REFUSED};
 use rc_streams::messages::{MESSAGE, Messages};
 use rc_streams::stop_file;
 
-/// Calls off the command that goes on with the session in this file, and returns the status: 0
-/// where there is one, which begins no transition more; 1 where none is under way.
+/// Calls off the command that goes on with the session in this file, and returns the status. It is
+/// 0 if there is such a command, which then begins no more transitions, and 1 if none is under way.
 pub fn stop(rt: &HostRuntime, path: &str) -> u8 {
     match stop_file::call_off(rt, path) {
         Ok(true) => DONE,

@@ -1,5 +1,5 @@
-//! `update`: what is live is carried over to another database. Where it is only shown, messages say
-//! why services move.
+//! `update`: carries what is live over to another database. If that is only shown, messages say why
+//! services move.
 
 use crate::commands::carry_out;
 use rc_args::{SessionCommand, UpdateRequest, Verbosity, renames_in};
@@ -28,7 +28,7 @@ pub fn update<'x, T: Threads + Wait + Sync>(
     status
 }
 
-/// The same with the text of that file.
+/// Carries out an update with the text of the file of the renames, and returns the status.
 fn update_by<'x, T: Threads + Wait + Sync>(
     rt: &HostRuntime,
     threads: &T,
@@ -45,7 +45,8 @@ fn update_by<'x, T: Threads + Wait + Sync>(
     }
 }
 
-/// What the file of the renames holds: nothing, where there is none.
+/// Reads the file of the renames, or returns nothing if none is named. If it can't be read, reports
+/// why and returns the status.
 fn renames_at(rt: &HostRuntime, path: Option<&str>) -> Result<Vec<u8>, u8> {
     let Some(path) = path else {
         return Ok(Vec::new(rt.alloc()));
@@ -56,7 +57,7 @@ fn renames_at(rt: &HostRuntime, path: Option<&str>) -> Result<Vec<u8>, u8> {
     }
 }
 
-/// Tells why an update that was shown moves services.
+/// Prints why an update that was shown moves services.
 pub fn tell_why(rt: &HostRuntime, opened: &Opened<'_>, status: u8) {
     if let (SessionCommand::Update(request), Some(old), Some(new), Some(live)) = (
         opened.command(),

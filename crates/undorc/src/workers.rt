@@ -1,4 +1,5 @@
-//! What helps where not all workers of a command could be started: how many could be.
+//! A hint with the number of workers that can be started, after not all workers of a command could
+//! be.
 
 use log::info;
 use rc_launch::frontend::ToldErrors;
@@ -7,7 +8,7 @@ use std::sync::{Condvar, Mutex, Wait};
 use std::thread;
 use std::thread::{Scope, Threads};
 
-/// A command has at most so many workers.
+/// The most workers that a command has.
 const MOST: u8 = 64;
 
 /// What holds the threads that are counted: whether they may end.
@@ -17,7 +18,7 @@ struct Held {
     changed: Condvar,
 }
 
-/// Tells how many workers can be started, if it was told that not all of a command could be.
+/// Prints how many workers can be started, if a fault says that not all of a command could be.
 pub fn tell_workers<T: Threads + Wait + Sync>(rt: &HostRuntime, threads: &T, told: &ToldErrors) {
     match told.fault() {
         Ok(Some((word, _))) if word == "NoThread" => {
@@ -30,7 +31,7 @@ pub fn tell_workers<T: Threads + Wait + Sync>(rt: &HostRuntime, threads: &T, tol
     }
 }
 
-/// How many workers can be started now. The caller is one of them.
+/// Returns the number of workers that can be started now. The caller is one of them.
 fn startable<T: Threads + Wait + Sync>(rt: &T) -> u8 {
     let held = Held {
         is_over: Mutex::new(false),
@@ -47,7 +48,7 @@ fn startable<T: Threads + Wait + Sync>(rt: &T) -> u8 {
     })
 }
 
-/// Starts threads that wait until the count is over, and counts them and the caller.
+/// Starts threads that wait until the count is over, and returns their number, with the caller.
 fn start_all<'s, E, T: Threads + Wait + Sync>(
     scope: &'s Scope<'s, E>,
     rt: &'s T,

@@ -1,4 +1,4 @@
-//! The commands of the program, as they are told to `clap`.
+//! The commands of the program, as they are declared to `clap`.
 ghost use Rattle.std.specs.Prelude.{◌≡◌};
 ghost use Rattle.clap.specs.Words.{App};
 ghost use Rattle.rc_args.specs.Commands.{IsOwn, Reads, altering_program, asking_program, bare};
@@ -12,7 +12,7 @@ use crate::cmdline::told::{ALTERING, ASKING, CHANGING, SHOWING, ToldArg, ToldCom
 use clap::{Arg, ArgAction, Command};
 use std::alloc::{AllocError, Global};
 
-/// The program, with its commands.
+/// Creates the program with all its commands.
 pub(crate) fn undorc_command<'a>(alloc: Global) -> Result<Command<'a>, AllocError>
     ensures { Reads result program }
 {
@@ -20,7 +20,7 @@ pub(crate) fn undorc_command<'a>(alloc: Global) -> Result<Command<'a>, AllocErro
     with_commands(alloc, altering, &SHOWING)
 }
 
-// The program with the commands that ask about databases.
+// Creates the program with the commands that ask about databases.
 fn asking_program<'a>(alloc: Global) -> Result<Command<'a>, AllocError>
     ensures { Reads result asking_program }
 {
@@ -28,7 +28,7 @@ fn asking_program<'a>(alloc: Global) -> Result<Command<'a>, AllocError>
     with_commands(alloc, alone, &ASKING)
 }
 
-// The same with those that go on with a session.
+// Creates the program with the commands that ask about databases or go on with a session.
 fn changing_program<'a>(alloc: Global) -> Result<Command<'a>, AllocError>
     ensures { Reads result changing_program }
 {
@@ -36,7 +36,8 @@ fn changing_program<'a>(alloc: Global) -> Result<Command<'a>, AllocError>
     with_commands(alloc, asking, &CHANGING)
 }
 
-// The same with those that alter what a session holds.
+// Creates the program with the commands of `changing_program` and those that alter what a session
+// holds.
 fn altering_program<'a>(alloc: Global) -> Result<Command<'a>, AllocError>
     ensures { Reads result altering_program }
 {
@@ -44,7 +45,7 @@ fn altering_program<'a>(alloc: Global) -> Result<Command<'a>, AllocError>
     with_commands(alloc, changing, &ALTERING)
 }
 
-// A program with the commands of a table.
+// Adds the commands of a table to a program.
 fn with_commands<'a>(
     alloc: Global,
     program: Result<Command<'a>, AllocError>,
@@ -71,7 +72,7 @@ fn undorc_alone<'a>(alloc: Global) -> Result<Command<'a>, AllocError>
     )
 }
 
-// A program with one more command.
+// Adds a command to a program.
 #[tactic(auto, unfolding(crate::specs::Commands::Reads, crate::specs::Commands::with_command))]
 fn with_command<'a>(
     alloc: Global,
@@ -88,7 +89,7 @@ fn with_command<'a>(
     }
 }
 
-// A command with the arguments of a table.
+// Creates a command with the arguments of a table.
 fn command_of<'a>(
     alloc: Global,
     name: &'a str,
@@ -104,7 +105,7 @@ fn command_of<'a>(
     command
 }
 
-// A command alone.
+// Creates a command without arguments.
 #[tactic(auto, unfolding(crate::specs::Commands::Reads, crate::specs::Commands::bare))]
 fn bare<'a>(alloc: Global, name: &'a str, about: &'a str) -> Result<Command<'a>, AllocError>
     ensures { Reads result (bare name.entry.now) }
@@ -112,7 +113,7 @@ fn bare<'a>(alloc: Global, name: &'a str, about: &'a str) -> Result<Command<'a>,
     Ok(Command::new(alloc, name).about(about))
 }
 
-// A command with one more argument.
+// Adds an argument to a command.
 #[tactic(auto, unfolding(crate::specs::Commands::Reads, crate::specs::Commands::rule_in, crate::specs::Commands::IsOwn, crate::specs::Commands::with_arg))]
 fn with_arg<'a>(
     alloc: Global,
@@ -125,7 +126,7 @@ fn with_arg<'a>(
     command?.arg(arg_of(alloc, told))
 }
 
-// An argument of a table.
+// Creates an argument from its entry in a table.
 #[tactic(auto, unfolding(crate::specs::Commands::rule_in, crate::specs::Commands::IsOwn))]
 fn arg_of<'a>(alloc: Global, told: &ToldArg) -> Arg<'a>
     ensures rule { rule_in result ≡ told_rule told.now }
@@ -190,7 +191,8 @@ fn query_argument<'a>(alloc: Global) -> Arg<'a>
         .help(QUERIES)
 }
 
-// Words, so many at least; where that is not 0, there must be some.
+// Creates a positional argument that takes at least `least` words. It is required unless `least` is
+// 0.
 #[tactic(auto, unfolding(crate::specs::Commands::rule_in, crate::specs::Commands::IsOwn))]
 fn words_argument<'a>(alloc: Global, least: usize, name: &'a str, help: &'a str) -> Arg<'a>
     ensures rule { rule_in result ≡ listed least }

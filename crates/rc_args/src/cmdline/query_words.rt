@@ -27,7 +27,7 @@ pub enum NamesQuery {
     AllDependencies,
 }
 
-/// The query of one name that has this word.
+/// Returns the query of one name that is spelled by a word, or `None` if there is none.
 pub fn name_query(word: &str) -> Option<NameQuery>
     ensures some { IfSome result (λ query. word.now ≡ name_word query) }
     ensures none { IfNone result ((query : OfOne) → word.now ≡ name_word query → ⊥) }
@@ -43,7 +43,7 @@ pub fn name_query(word: &str) -> Option<NameQuery>
     }
 }
 
-/// The query of any number of names that has this word.
+/// Returns the query of any number of names that is spelled by a word, or `None` if there is none.
 pub fn names_query(word: &str) -> Option<NamesQuery>
     ensures some { IfSome result (λ query. word.now ≡ names_word query) }
     ensures none { IfNone result ((query : OfMany) → word.now ≡ names_word query → ⊥) }

@@ -7,9 +7,11 @@ pub(crate) enum ToldArg {
     Flag(&'static str, char, &'static str),
     /// An option: its id, its letter, the name of its value, and what help says of it.
     Valued(&'static str, char, &'static str, &'static str),
-    /// The same, where the option must be given.
+    /// An option that must be given: its id, its letter, the name of its value, and what help says
+    /// of it.
     Needed(&'static str, char, &'static str, &'static str),
-    /// The same, where the option may be given again and again.
+    /// An option that may be repeated: its id, its letter, the name of its value, and what help
+    /// says of it.
     Repeated(&'static str, char, &'static str, &'static str),
     /// The word that is the query.
     Query,
@@ -125,7 +127,7 @@ const CONTROLLER: ToldArg = Valued(
     "Start this program, with these words, for a longrun; `up` or `down` and the name are its last words",
 );
 
-// How long a transition may take, and that each is reported.
+// How long a transition may take, and which transitions are reported.
 const USUAL: ToldArg = Valued(
     "usual",
     'T',
@@ -145,7 +147,7 @@ const QUIET: ToldArg = Flag(
     "Report no transition, not even one that does not succeed",
 );
 
-// The file that a session goes on with and is kept in, and that it is waited for.
+// The file that holds the session, and whether the command waits for it.
 const LIVE: ToldArg = Valued(
     "live",
     'l',
@@ -263,7 +265,7 @@ const RESTART: [ToldArg; 11] = [
     Words(1, "NAME", "The name of a service or of a bundle"),
 ];
 
-// Where a session stands, which no lock is needed for.
+// The state of a session, which is shown without a lock.
 const STATUS: [ToldArg; 3] = [
     BASE,
     Valued("live", 'l', "FILE", "The file of the session"),

@@ -11,7 +11,7 @@ use clap::error::ErrorKind;
 use clap::{ArgMatches, Error};
 use std::alloc::Global;
 
-/// What `clap` makes of the words. The first word is the program's own name.
+/// Parses argv with `clap`. The first argument is the program's own name.
 pub fn matches_of<'a>(alloc: Global, words: &'a [String]) -> Result<ArgMatches<'a>, Error>
     ensures rows { IfOk result (λ m. subcommand_rows_of m
         ≡ subcommand_of program (map string_bytes words.entry.now)) }
@@ -24,7 +24,7 @@ pub fn matches_of<'a>(alloc: Global, words: &'a [String]) -> Result<ArgMatches<'
     command.try_get_matches_from(words)
 }
 
-/// The name of the command that was entered, and its matches.
+/// Returns the name and the matches of the command that was entered.
 pub fn entered<'m, 'a>(matches: &'m ArgMatches<'a>) -> Option<(&'a str, &'m ArgMatches<'a>)>
     ensures { option_map (λ m. (m.0.now, rows_of (found_of m.1.now))) result
         ≡ subcommand_rows_of matches.entry.now }
@@ -32,7 +32,7 @@ pub fn entered<'m, 'a>(matches: &'m ArgMatches<'a>) -> Option<(&'a str, &'m ArgM
     matches.subcommand()
 }
 
-/// Whether a flag was given.
+/// Returns true if a flag was given.
 pub fn is_on(matches: &ArgMatches<'_>, id: &str) -> bool
     ensures { result ≡ is_on id.now (rows_of (found_of matches.now)) }
 {
@@ -42,7 +42,7 @@ pub fn is_on(matches: &ArgMatches<'_>, id: &str) -> bool
     }
 }
 
-/// Whether a parse ended out of memory. Each other error tells of a wrong line.
+/// Returns true if a parse ran out of memory. Any other error means that the command line is wrong.
 pub fn is_memory(error: &Error) -> bool
     ensures { IsTrue result ↔ (kind_of error.now ≡ ErrorKind.OutOfMemory) }
 {

@@ -16,11 +16,12 @@ use rc_streams::{Failure, MAX_INPUT, Noted};
 use std::alloc::Global;
 use std::io::{Read, Write};
 
-/// Runs `undorc db` on its words, and answers the status.
+/// Runs `undorc db` with its arguments, and returns the exit status.
 ///
-/// The database is `base`, where there is one, and then nothing is read; else it stands at the
-/// beginning of the input, and the rest of that is ignored. The answer is written to `writer`, and
-/// why there is none to `faults`. No file is read: a picture fills nothing, whatever `-l` names.
+/// The database is `base`, if there is one, and then nothing is read. Otherwise the database is the
+/// beginning of the input, and the rest of the input is ignored. The answer is written to `writer`,
+/// and the reason why there is none to `faults`. No file is read: a picture fills nothing, whatever
+/// `-l` names.
 pub fn db_run<R: Read, W: Write, F: Write>(
     alloc: Global,
     words: &[String],

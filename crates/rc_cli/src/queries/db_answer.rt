@@ -27,7 +27,7 @@ use rc_render::{dot_text, id_lines, name_lines};
 use rc_set::Set;
 use std::alloc::{AllocError, Global};
 
-/// What is printed for what is asked.
+/// Returns the text that is printed for a request.
 pub(crate) fn answer_to(
     alloc: Global,
     db: &Db,
@@ -55,7 +55,8 @@ pub(crate) fn answer_to(
     }
 }
 
-// The picture, in which what is up in a session is filled, and without one nothing.
+// Returns the picture of a database. What is up in a session is filled. Without a session, nothing
+// is filled.
 fn picture(alloc: Global, db: &Db, shown: Option<&[u8]>) -> Result<Vec<u8>, Fault>
     ensures text { IfOk result (λ text. IsPicture db.now (bytes_of shown.entry) text.items) }
     ensures fault { IfErr result (IsShownFault db.now (bytes_of shown.entry)) }
@@ -66,7 +67,7 @@ fn picture(alloc: Global, db: &Db, shown: Option<&[u8]>) -> Result<Vec<u8>, Faul
     }
 }
 
-// The picture with nothing filled.
+// Returns the picture of a database with nothing filled.
 fn plain_picture(alloc: Global, db: &Db) -> Result<Vec<u8>, NoMem>
     ensures { IfOk result (λ text. text.items ≡ dot_text db.now []) }
 {
@@ -74,7 +75,7 @@ fn plain_picture(alloc: Global, db: &Db) -> Result<Vec<u8>, NoMem>
     dot_text(alloc, db, &none)
 }
 
-// The picture, in which what is up by the text of a session is filled.
+// Returns the picture of a database, in which what is up by the text of a session is filled.
 fn filled_picture(alloc: Global, db: &Db, bytes: &[u8]) -> Result<Vec<u8>, Fault>
     ensures text { IfOk result (λ text. IsPicture db.now (Some bytes.now) text.items) }
     ensures fault { IfErr result (IsShownFault db.now (Some bytes.now)) }
@@ -88,7 +89,7 @@ fn filled_picture(alloc: Global, db: &Db, bytes: &[u8]) -> Result<Vec<u8>, Fault
     Ok(text?)
 }
 
-// The names of one sort.
+// Returns the names of one sort.
 fn list_text(alloc: Global, db: &Db, which: Which) -> Result<Vec<u8>, NoMem>
     ensures { IfOk result (λ text. IsListText db.now which text.items) }
 {
@@ -98,7 +99,7 @@ fn list_text(alloc: Global, db: &Db, which: Which) -> Result<Vec<u8>, NoMem>
     name_lines(alloc, &names)
 }
 
-// The answer of a query of one name.
+// Returns the answer of a query of one name.
 fn name_text(
     alloc: Global,
     db: &Db,
@@ -127,7 +128,7 @@ fn kind_text(alloc: Global, db: &Db, name: &str) -> Result<Vec<u8>, QueryFault>
     Ok(Vec::from_slice(alloc, kind_line(kind))?)
 }
 
-// The line of a kind.
+// Returns the line of a kind.
 fn kind_line(kind: Kind) -> &'static [u8]
     ensures { result.now ≡ line (kind_word kind) }
 {
@@ -181,7 +182,7 @@ fn script_text(alloc: Global, db: &Db, name: &str, way: Way) -> Result<Vec<u8>, 
     Ok(text.into_bytes())
 }
 
-// The answer of a query of any number of names.
+// Returns the answer of a query of any number of names.
 fn names_text(
     alloc: Global,
     db: &Db,
@@ -198,7 +199,7 @@ fn names_text(
     Ok(id_lines(alloc, db.names(), &ids)?)
 }
 
-// The services that a query of any number of names finds.
+// Returns the services that a query of any number of names finds.
 fn ids_found(
     alloc: Global,
     db: &Db,

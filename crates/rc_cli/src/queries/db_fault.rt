@@ -9,7 +9,7 @@ use rc_db::QueryFault;
 use rc_streams::Failure;
 use std::alloc::Global;
 
-/// A fault of a query, with the name that nothing has.
+/// Converts a fault of a query into one of the command, with the name that nothing has.
 pub(crate) fn query_fault(alloc: Global, fault: QueryFault, query: &Query<'_>) -> Fault
     ensures { IsFromQuery fault (names_in (question_of query.now)) result }
 {
@@ -23,7 +23,8 @@ pub(crate) fn query_fault(alloc: Global, fault: QueryFault, query: &Query<'_>) -
     }
 }
 
-/// What helps behind the word of a fault of a query: which sort of name is asked about.
+/// Returns the hint that follows the word of a query's fault: the sort of name that the query is
+/// about. Returns `None` for any other word.
 pub fn query_hint(word: &str) -> Option<&'static str>
     ensures { MatchOption result (IsSortWord word.now → ⊥) (λ hint. IsSortWord word.now) }
 {
@@ -36,7 +37,7 @@ pub fn query_hint(word: &str) -> Option<&'static str>
     }
 }
 
-// The name at a place of those that a query is of, or none.
+// Returns the name at a place among those of a query, or an empty name if there is none.
 fn name_at<'q>(query: &'q Query<'_>, place: usize) -> &'q str
     ensures { result.now
         ≡ unwrap_or (slice_get (names_in (question_of query.entry.now)) place) [] }

@@ -8,7 +8,8 @@ use rc_names::Names;
 use rc_set::{NoMem, Set};
 use std::alloc::Global;
 
-/// The lines of a list of words: empty ones do not count, and the last may lack its newline.
+/// Splits a list of words into its lines. Empty lines do not count, and the last line may lack its
+/// newline.
 pub(crate) fn word_lines<'a>(alloc: Global, bytes: &'a [u8]) -> Result<Vec<&'a [u8]>, NoMem>
     ensures { IfOk result (λ lines. map (λ line. line.now) lines.items
         ≡ word_lines bytes.entry.now) }
@@ -19,7 +20,7 @@ pub(crate) fn word_lines<'a>(alloc: Global, bytes: &'a [u8]) -> Result<Vec<&'a [
         .collect(alloc)
 }
 
-/// The set of the services that words name.
+/// Returns the set of the services that words name.
 pub(crate) fn named_set(alloc: Global, names: &Names, words: &[&[u8]]) -> Result<Set, Fault>
     ensures bound { IfOk result (λ set. length set ≡ length names.now) }
     ensures members { IfOk result (λ set. Holds set

@@ -19,7 +19,7 @@ use rc_streams::{Failure, MAX_INPUT, Noted};
 use std::alloc::Global;
 use std::io::Read;
 
-/// What a query comes to, with the database of a base or of the input.
+/// Returns the outcome of a query, with the database of a base or of the input.
 pub(crate) fn outcome_of<R: Read>(
     alloc: Global,
     query: &Query<'_, '_>,
@@ -95,7 +95,8 @@ fn open_base(alloc: Global, base: &[u8]) -> Result<Opened, OpenFault>
     }
 }
 
-/// The answer in a database with the text after it, or why there is none. It calls no device.
+/// Returns the answer of a query, by a database and the text after it, or the fault if there is
+/// none. Calls no device.
 fn answer(alloc: Global, query: &Query<'_, '_>, db: Db, rest: &[u8]) -> Result<Vec<u8>, Fault>
     ensures answer { IfOk result (λ text.
         IsAnswerIn (query_ask_of query.now) db rest.now text.items) }

@@ -30,11 +30,11 @@ use rc_streams::{Failure, MAX_INPUT, Noted};
 use std::alloc::Global;
 use std::io::{Read, Write};
 
-/// Runs `undorc plan` on its words, and answers the status.
+/// Runs `undorc plan` with its arguments, and returns the exit status.
 ///
-/// The database is `base`, where there is one, which is looked at before anything is read, and else
-/// the beginning of the input. After it the input has the names that are up, one a line. The plan
-/// is written to `writer`, and why there is none to `faults`.
+/// The database is `base`, if there is one, which is checked before anything is read. Otherwise the
+/// database is the beginning of the input. After it the input has the names that are up, one per
+/// line. The plan is written to `writer`, and the reason why there is none to `faults`.
 pub fn plan_run<R: Read, W: Write, F: Write>(
     alloc: Global,
     words: &[String],
@@ -102,8 +102,7 @@ pub fn plan_run<R: Read, W: Write, F: Write>(
     }
 }
 
-/// The lines of the plan for what is asked in a database, where the lines of a text name what is
-/// up.
+/// Returns the lines of the plan for a request on a database. The lines of a text name what is up.
 pub(crate) fn plan_of(
     alloc: Global,
     request: &Request,
@@ -119,7 +118,7 @@ pub(crate) fn plan_of(
     text_for(alloc, db, &ups, request)
 }
 
-/// The lines of the plan for what is asked, where these are up.
+/// Returns the lines of the plan for a request, where the given names are up.
 fn text_for(alloc: Global, db: &Db, ups: &[&[u8]], request: &Request) -> Result<Vec<u8>, Fault>
     ensures plan { IfOk result (λ text. IsTextFor db.now (map (λ w. w.now) ups.now)
         (ask_of request.now) text.items) }
@@ -138,7 +137,7 @@ fn text_for(alloc: Global, db: &Db, ups: &[&[u8]], request: &Request) -> Result<
     Ok(text?)
 }
 
-/// The set of the services that are up.
+/// Returns the set of the services that are up.
 fn up_set(alloc: Global, names: &Names, graph: &Graph, ups: &[&[u8]]) -> Result<Set, Fault>
     requires { length names.now ≡ length graph.now }
     ensures up { IfOk result (IsUpSet names.now graph.now (map (λ w. w.now) ups.now)) }
@@ -156,7 +155,7 @@ fn up_set(alloc: Global, names: &Names, graph: &Graph, ups: &[&[u8]]) -> Result<
     }
 }
 
-/// The plan of what is asked, where these services are up.
+/// Returns the plan for a request, where the given services are up.
 fn planned(alloc: Global, db: &Db, up: &Set, request: &Request) -> Result<Plan, Fault>
     requires bound { length up.now ≡ length db.now.names }
     requires closed { IsClosed db.now.needs (Has up.now) }
@@ -169,7 +168,7 @@ fn planned(alloc: Global, db: &Db, up: &Set, request: &Request) -> Result<Plan, 
     }
 }
 
-/// A refusal of the plan as a fault, with the word that is the name of nothing.
+/// Converts a refusal of the plan into a fault, with the word that is the name of nothing.
 fn fault_of(alloc: Global, fault: PlanFault, request: &Request) -> Fault
     requires { (place : ℕ) → fault ≡ PlanFault.Unknown place
         → place < length request.now.names.items }

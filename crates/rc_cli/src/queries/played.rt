@@ -14,7 +14,7 @@ use rc_script::{NoMem, read_script};
 use rc_session::{Refusal, Report, Session, Step};
 use std::alloc::Global;
 
-/// The answers to the commands of a script, carried out on a database from nothing, then
+/// Returns the answers to the commands of a script, carried out on a database from nothing, then
 /// what is live, then the journal.
 pub(crate) fn replay_text(alloc: Global, db: Db, script: &[u8]) -> Result<Vec<u8>, Fault>
     ensures text { IfOk result (λ text. IsReplay db script.now text.items) }
@@ -25,8 +25,8 @@ pub(crate) fn replay_text(alloc: Global, db: Db, script: &[u8]) -> Result<Vec<u8
     Ok(text)
 }
 
-/// The answers to commands that are carried out on a database from nothing, then
-/// what is live, then the journal.
+/// Carries out commands on a database from nothing. Returns their answers, then what is live, then
+/// the journal.
 fn played_text(alloc: Global, db: Db, steps: &[Step]) -> Result<Vec<u8>, NoMem>
     ensures { IfOk result (λ text. IsPlayed db (map command_of steps.now) text.items) }
 {
@@ -44,7 +44,7 @@ fn played_text(alloc: Global, db: Db, steps: &[Step]) -> Result<Vec<u8>, NoMem>
     }
 }
 
-/// The answers to commands, then what is live, then the journal.
+/// Returns the answers to commands, then what is live, then the journal.
 fn told_text(
     alloc: Global,
     session: &Session,
@@ -64,7 +64,7 @@ fn told_text(
     Ok(text)
 }
 
-/// The answers to commands, one after the other.
+/// Returns the answers to commands, one after the other.
 fn answers_text(
     alloc: Global,
     names: &Names,

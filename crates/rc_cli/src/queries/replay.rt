@@ -18,11 +18,11 @@ use rc_streams::{Failure, MAX_INPUT, Noted};
 use std::alloc::Global;
 use std::io::{Read, Write};
 
-/// Runs `undorc replay` on its words, and answers the status.
+/// Runs `undorc replay` with its arguments, and returns the exit status.
 ///
-/// The database is `base`, where there is one, which is looked at before anything is read, and else
-/// the beginning of the input. After it the input has the script. What it comes to is written to
-/// `writer`, and why there is nothing to write to `faults`.
+/// The database is `base`, if there is one, which is checked before anything is read. Otherwise the
+/// database is the beginning of the input. After it the input has the script. What the script comes
+/// to is written to `writer`, and the reason why there is nothing to write to `faults`.
 pub fn replay_run<R: Read, W: Write, F: Write>(
     alloc: Global,
     words: &[String],

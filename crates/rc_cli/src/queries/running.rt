@@ -18,7 +18,7 @@ use rc_streams::{Failure, MAX_INPUT, Noted};
 use std::alloc::Global;
 use std::io::{Read, Write};
 
-/// What is asked of a database, and of the text after it.
+/// A query of a database, and of the text after it.
 #[derive(Clone, Copy)]
 pub enum Query<'a, 'r> {
     /// The plan of a change, where the text names the services that are up.
@@ -30,7 +30,7 @@ pub enum Query<'a, 'r> {
 }
 
 impl Query<'_, '_> {
-    /// Whether the text after the database is read, too.
+    /// Returns true if the text after the database is read, too.
     pub(crate) fn reads(&self) -> bool
         ensures { result ≡ reads_of self.now }
     {
@@ -41,10 +41,10 @@ impl Query<'_, '_> {
     }
 }
 
-/// Runs a query, and returns the status: 0, 1 for a refusal, or 111 for a failure.
+/// Runs a query, and returns the exit status: 0, 1 for a refusal, or 111 for a failure.
 ///
-/// The database is `base`, if there is one, and else the front of the input. A wrong base ends the
-/// query before anything is read. With a base, a query of the database alone reads nothing.
+/// The database is `base`, if there is one, and otherwise the front of the input. A wrong base ends
+/// the query before anything is read. With a base, a query of the database alone reads nothing.
 pub fn run_query<R: Read, W: Write, F: Write>(
     alloc: Global,
     query: &Query<'_, '_>,

@@ -23,8 +23,8 @@ use rc_serve::ServeFault;
 use rc_session::Session;
 use std::alloc::Global;
 
-/// The session of a service on a database, where it begins, if the service moves no longrun that no
-/// program controls.
+/// Creates the session of a service on a database, where it begins. Fails if the service moves a
+/// longrun that no program controls.
 pub(crate) fn begin_controlled<'a>(
     alloc: Global,
     db: Db,
@@ -54,7 +54,7 @@ pub(crate) fn begin_controlled<'a>(
     }
 }
 
-/// A session on a database, where it begins.
+/// Creates a session on a database, which begins with nothing up or where its file stands.
 pub fn begin<'a>(
     alloc: Global,
     db: Db,
@@ -73,7 +73,7 @@ pub fn begin<'a>(
     }
 }
 
-// A session that begins where its file stands.
+// Creates a session that begins where its file stands.
 fn go_on<'a>(
     alloc: Global,
     db: Db,
@@ -95,7 +95,7 @@ fn go_on<'a>(
     }
 }
 
-// A session that begins with nothing up.
+// Creates a session that begins with nothing up.
 fn fresh<'a>(alloc: Global, db: Db, bound: u32) -> Result<Session, SessionFault<'a>>
     requires bound { 3 ≤ bound }
     ensures begun { IfOk result (λ session. session ≡ session_on db (first_line db bound)) }
@@ -107,7 +107,7 @@ fn fresh<'a>(alloc: Global, db: Db, bound: u32) -> Result<Session, SessionFault<
     }
 }
 
-// A session that goes on with the line of a text.
+// Creates a session that goes on with the line of a text.
 fn resumed<'a>(alloc: Global, db: Db, bytes: &[u8]) -> Result<Session, SessionFault<'a>>
     ensures begun { IfOk result (λ session. (start : Line)
         × IsLineOf db start × Spells db bytes.now start × (session ≡ session_on db start)) }

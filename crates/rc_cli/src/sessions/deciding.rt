@@ -14,8 +14,8 @@ use rc_serve::KeepFault;
 use rc_streams::messages::Messages;
 use std::io::{self, ErrorKind};
 
-/// Whether a session is to do something, and not only to show it: one of many lines may, and one of
-/// one line does where that says a command.
+/// Returns true if a session is to do something, and not only to show it. A session of many lines
+/// may do something. A session of one line does if the line says a command.
 pub fn moves(once: Option<&Once>) -> bool
     ensures { IsTrue result ↔ Moves (option_map (λ one. once_saying_of one.now) once.entry) }
 {
@@ -26,7 +26,7 @@ pub fn moves(once: Option<&Once>) -> bool
     }
 }
 
-/// What stood in the file of `-l`, as it was read.
+/// Returns what stood in the file of `-l`, as it was read.
 pub fn live_file(read: &io::Result<Option<Vec<u8>>>) -> LiveFile<'_>
     ensures found { IfOk read.now (λ found.
         IsFound (option_map (λ bytes. bytes.items) found) result) }
@@ -39,7 +39,7 @@ pub fn live_file(read: &io::Result<Option<Vec<u8>>>) -> LiveFile<'_>
     }
 }
 
-/// Why a file could not be read or written.
+/// Returns the fault of a file that could not be read or written.
 pub fn keep_fault(error: &io::Error) -> KeepFault {
     if error.kind() == ErrorKind::OutOfMemory {
         return KeepFault::Memory;
@@ -47,7 +47,8 @@ pub fn keep_fault(error: &io::Error) -> KeepFault {
     KeepFault::Io
 }
 
-/// The log of a session: messages on standard error, of the transitions that it reports.
+/// Creates the log of a session, which writes messages about the transitions that it reports to
+/// standard error.
 pub fn log_for<'h>(
     host: &'h HostRuntime,
     request: &SessionRequest<'_>,
@@ -57,7 +58,7 @@ pub fn log_for<'h>(
     Logged::new(host, level_of(request.verbosity), Messages(host))
 }
 
-// Up to which level messages are written.
+// Returns the level up to which messages are written.
 fn level_of(verbosity: Verbosity) -> LevelFilter
     ensures { result ≡ level_by verbosity }
 {

@@ -29,7 +29,7 @@ impl From<AllocError> for GateFault<'_> {
     }
 }
 
-/// The gate at which these transitions fail, and no others. Its clock stands at 0.
+/// Creates the gate at which the given transitions fail, and no others. Its clock stands at 0.
 pub fn gate_of<'a>(
     alloc: Global,
     names: &Names,

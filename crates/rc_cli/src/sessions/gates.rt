@@ -1,4 +1,4 @@
-//! The gate of a session: the one by which its transitions are made as it is asked.
+//! The gate of a session, which makes its transitions as its options say.
 ghost use Rattle.std.specs.Prelude.{◌≡◌, option_map, IfErr, IfOk};
 ghost use Rattle.rc_runner.specs.Shell.{scripts_of};
 ghost use Rattle.rc_args.specs.Making.{making_ask_of};
@@ -14,8 +14,8 @@ use rc_db::{Db, NoMem};
 use rc_runner::{SessionGate, ShellGate, Telling};
 use rc_serve::ServeFault;
 
-/// The gate that makes the transitions of a database as it is asked. `host` starts its programs.
-/// Where each transition is reported, what they write is shown.
+/// Creates the gate that makes the transitions of a database as its options say. `host` starts its
+/// programs. If each transition is reported, what the programs write is shown.
 pub fn gate_for<'h, 'a, T, L: Log + Sync>(
     host: &Host<'h, T, L>,
     db: &Db,
@@ -37,7 +37,8 @@ pub fn gate_for<'h, 'a, T, L: Log + Sync>(
     }
 }
 
-// The same, and how transitions end is not told.
+// Creates the gate that makes the transitions of a database as its options say, without a report of
+// how they end.
 fn quiet_gate<'h, 'a, T, L: Log + Sync>(
     host: &Host<'h, T, L>,
     db: &Db,
@@ -61,8 +62,8 @@ fn quiet_gate<'h, 'a, T, L: Log + Sync>(
     }
 }
 
-// The gate that runs these programs. What they write is shown where transitions are reported, and
-// what is done is logged where there is a file for it.
+// Creates the gate that runs the given programs. If each transition is reported, what the programs
+// write is shown. If there is a file for it, what is done is logged.
 fn shell_gate<'h, T, L: Log + Sync>(
     host: &Host<'h, T, L>,
     db: &Db,

@@ -23,8 +23,8 @@ pub struct RunFiles {
 }
 
 impl RunFiles {
-    /// Removes them, but for the log of a run of which the session may not know. The lock of the
-    /// session is still held.
+    /// Removes the files, except the log of a run of which the session may not know. The lock of
+    /// the session is still held.
     pub fn remove(&self, rt: &HostRuntime, path: &str) {
         let _ = stop_file::remove(rt, path);
         if !self.log.has_run() {

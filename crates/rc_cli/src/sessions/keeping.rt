@@ -27,7 +27,7 @@ pub struct KeptText<'a> {
 }
 
 impl<'a> KeptText<'a> {
-    /// Its bytes.
+    /// Returns the bytes of the text.
     pub fn bytes(&self) -> &'a [u8]
         ensures { result.now ≡ kept_bytes self.now }
     {
@@ -39,14 +39,14 @@ impl<'a> KeptText<'a> {
 pub trait Store {
     ghost use Rattle.rc_cli.specs.Storing.{kept_bytes};
 
-    /// The bytes that stand there. None: nobody can say, as of a file.
+    /// Returns the bytes that the store holds, or `None` if nobody can say, as for a file.
     ghost holds: { Self → Option (List ℕ) };
 
-    /// Whether it has failed.
+    /// States that the store has failed.
     ghost failed: { Self → Type 0 };
 
-    /// Puts this text in the place of what stands there. Where that fails, what stood there does,
-    /// or the text does. A store of which that can be said stays one.
+    /// Replaces what the store holds by the given text. If that fails, the store holds its old text
+    /// or the new one. If the bytes of a store can be said, they still can be afterwards.
     fn replace(&mut self, text: KeptText<'_>) -> Result<(), KeepFault>
         ensures put { OnOk result (IfSome (holds self.new) (λ held. held ≡ kept_bytes text.entry)) }
         ensures known { IsSome (holds self.old) → IsSome (holds self.new) }
@@ -54,8 +54,8 @@ pub trait Store {
             ⊎ IfSome (holds self.new) (λ held. held ≡ kept_bytes text.entry)) }
         ensures io { IfErr result (λ fault. fault ≡ KeepFault.Io → failed self.new) };
 
-    /// What is put there from now on is the text of a session on the new database of an update.
-    /// What stands there stays until then.
+    /// Announces that each text from now on is of a session on the new database of an update. What
+    /// the store holds stays until then.
     fn enter(&mut self)
         ensures same { holds self.new ≡ holds self.old };
 }
@@ -67,21 +67,21 @@ pub struct TextKeeper<S> {
 }
 
 impl<S: Store> TextKeeper<S> {
-    /// Keeps in this store.
+    /// Creates a keeper with the given store.
     pub fn new(store: S) -> TextKeeper<S>
         ensures { store_of result ≡ store }
     {
         TextKeeper { store }
     }
 
-    /// What is kept from now on is the session on the new database of an update.
+    /// Announces that each session from now on is on the new database of an update.
     pub(crate) fn enter(&mut self)
         ensures same { S.holds (store_of self.new) ≡ S.holds (store_of self.old) }
     {
         self.store.enter();
     }
 
-    /// The store.
+    /// Returns the store.
     pub fn into_store(self) -> S
         ensures { result ≡ store_of self }
     {

@@ -36,15 +36,16 @@ use std::thread::Threads;
 /// Something failed, was blocked or was not tried.
 const HINDERED: u8 = 2;
 
-/// Launches a session, and returns the status: 0 where all is done or shown; 1 where it is refused,
-/// and nothing has moved; 2 where one line or a restart was carried out, and something failed, was
+/// Launches a session, and returns the exit status: 0 if all is done or shown; 1 if it is refused,
+/// and nothing has moved; 2 if one line or a restart was carried out, and something failed, was
 /// blocked or was not tried; 111 for a failure.
 ///
-/// With a base each line of the input is answered before the next one is waited for, and one line
-/// or a restart reads nothing. Without one the input is read whole first: the database stands at
-/// its beginning, and the lines after it. The session goes on with the text that was found in its
-/// file. It is kept there from before its first line on, and each line before it is answered. Why
-/// it ended before its input is written to `faults`. The two devices must not have failed before.
+/// With a base, each line of the input is answered before the next one is waited for, and one line
+/// or a restart reads nothing. Without a base, the input is read whole first: the database stands
+/// at its beginning, and the lines after it. The session goes on with the text that was found in
+/// its file. It is kept there before its first line, and what each line alters is kept before its
+/// answer. If the session ends before its input does, the reason is written to `faults`. The reader
+/// and the writer must not have failed before.
 pub fn launch<T: Threads + Wait + Sync, R: Read, W: Write, F: Write, S: Store, L: Log + Sync>(
     host: &Host<'_, T, L>,
     request: &SessionRequest<'_>,
@@ -104,7 +105,7 @@ pub fn launch<T: Threads + Wait + Sync, R: Read, W: Write, F: Write, S: Store, L
     }
 }
 
-/// Tells a fault, and returns the status.
+/// Reports a fault, if there is one, and returns the exit status.
 pub fn tell_ended<F: Write>(
     alloc: Global,
     faults: &mut F,
@@ -118,7 +119,7 @@ pub fn tell_ended<F: Write>(
     }
 }
 
-// The status of a line that was answered.
+// Returns the exit status of a line that was answered.
 fn status_of(ending: Ending) -> u8
     ensures { result ≡ status_of ending }
 {
@@ -129,8 +130,8 @@ fn status_of(ending: Ending) -> u8
     }
 }
 
-// Launches it on a database, over its own input: past the gate that is asked for, from where it
-// begins.
+// Launches a session on a database, over its own input. It uses the gate that the options ask for,
+// and goes on from where the session begins.
 fn launch_on<T: Threads + Wait + Sync, R: Read, W: Write, F: Write, S: Store, L: Log + Sync>(
     host: &Host<'_, T, L>,
     launch: Launch<'_>,
@@ -176,7 +177,8 @@ fn launch_on<T: Threads + Wait + Sync, R: Read, W: Write, F: Write, S: Store, L:
     }
 }
 
-/// The database of a text of its own, or at the beginning of an input, and what is after it.
+/// Reads the database of a text of its own, or the one at the beginning of an input. Returns it and
+/// what follows it in the input.
 pub fn spelled<'a, 'b>(
     alloc: Global,
     base: Option<&[u8]>,
@@ -192,7 +194,8 @@ pub fn spelled<'a, 'b>(
     }
 }
 
-// Why the input was not read whole, as a fault of serving. A read fails as none but a read does.
+// Converts a failure to read the whole input into a fault of serving. Reading never fails with
+// `Write`.
 fn reading_fault(failure: Failure) -> ServeFault
     ensures { result ≡ reading_fault failure }
 {

@@ -22,8 +22,8 @@ use std::io::Write;
 use std::sync::Wait;
 use std::thread::Threads;
 
-// Serves it on a session. What is only shown is not kept: who looks need not have the right to
-// write.
+// Serves one line on a session. What is only shown is not kept, since a user who looks need not
+// have the right to write.
 pub(crate) fn serve_once<T: Threads + Wait + Sync, W: Write, G: Gate, S: Store, L>(
     host: &Host<'_, T, L>,
     request: &SessionRequest<'_>,
@@ -51,8 +51,8 @@ pub(crate) fn serve_once<T: Threads + Wait + Sync, W: Write, G: Gate, S: Store, 
     }
 }
 
-/// Does what a line says. A command alone is kept, where a file is named, and first of all where
-/// the session begins, so that a store that fails is found before anything is done.
+/// Does what a line says. Only a command is kept, and only if a file is named. The session is kept
+/// first of all where it begins, so that a store that fails is found before anything is done.
 pub fn line_once<T: Threads + Wait + Sync, W: Write, G: Gate, S: Store, L>(
     host: &Host<'_, T, L>,
     request: &SessionRequest<'_>,
@@ -97,7 +97,7 @@ pub fn line_once<T: Threads + Wait + Sync, W: Write, G: Gate, S: Store, L>(
     answer_once(&executor, session, &mut Unkept, said, &mut outputs.writer)
 }
 
-// Whether what is said is kept: it is a command, and a file is named.
+// Returns true if a line is kept: it is a command, and a file is named.
 fn is_kept(request: &SessionRequest<'_>, said: &SessionLine) -> bool
     ensures kept { IsTrue result → ((session_ask_of request.now).live ≢ None)
         × IsCommand (saying_of said.now) }

@@ -37,8 +37,8 @@ struct First {
 }
 
 /// Restarts services on a session. Two lines are served, and their answers are written. The first
-/// one lowers what is named, as `change -D`. The second one raises exactly what went down, also
-/// where something else did not. Each is an entry of the journal.
+/// one lowers what is named, as `change -D` does. The second one raises exactly what went down,
+/// even if other services did not go down. Each is an entry of the journal.
 pub(crate) fn restart_in<T: Threads + Wait + Sync, W: Write, G: Gate, S: Store, L>(
     host: &Host<'_, T, L>,
     request: &SessionRequest<'_>,
@@ -73,7 +73,7 @@ pub(crate) fn restart_in<T: Threads + Wait + Sync, W: Write, G: Gate, S: Store, 
     ended
 }
 
-// Serves the first step and, where that is not refused, the second one.
+// Serves the first step and, if that is not refused, the second one.
 fn serve_steps<T: Threads + Wait + Sync, W: Write, G: Gate, S: Store, L>(
     host: &Host<'_, T, L>,
     request: &SessionRequest<'_>,
@@ -107,7 +107,7 @@ fn serve_steps<T: Threads + Wait + Sync, W: Write, G: Gate, S: Store, L>(
     }
 }
 
-// Serves the second step: what was live before and is not any more comes up.
+// Serves the second step, which raises what was live before and is not any more.
 fn raise_again<T: Threads + Wait + Sync, W: Write, G: Gate, S: Store, L>(
     host: &Host<'_, T, L>,
     request: &SessionRequest<'_>,
@@ -137,7 +137,7 @@ fn raise_again<T: Threads + Wait + Sync, W: Write, G: Gate, S: Store, L>(
     raised
 }
 
-// The names of what was live before and is not any more.
+// Returns the names of what was live before and is not any more.
 fn went_down(alloc: Global, session: &Session, before: &Set) -> Result<Vec<String>, NoMem>
     requires closed { session.now.begun ≡ false }
     requires bound { length before.now ≡ length session.now.database.names }
@@ -152,7 +152,7 @@ fn went_down(alloc: Global, session: &Session, before: &Set) -> Result<Vec<Strin
     names
 }
 
-// How a restart ends whose steps end so.
+// Returns the ending of a restart by the endings of its steps.
 fn ending_with(lowered: Ending, raised: Ending) -> Ending
     ensures { result ≡ ending_with lowered raised }
 {

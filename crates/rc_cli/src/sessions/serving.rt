@@ -24,8 +24,9 @@ use std::io::{Read, Write};
 use std::sync::Wait;
 use std::thread::Threads;
 
-/// Serves it on a session, which must be whole. Where a file is named a session of lines is kept,
-/// first of all where it begins, so that a store that fails is found before anything is done.
+/// Serves what a session is launched for. The session must be whole. If a file is named, a session
+/// of lines is kept, first of all where it begins, so that a store that fails is found before
+/// anything is done.
 pub(crate) fn serve_service<T: Threads + Wait + Sync, R: Read, W: Write, G: Gate, S: Store, L>(
     host: &Host<'_, T, L>,
     launch: Launch<'_>,
@@ -84,7 +85,7 @@ pub(crate) fn serve_service<T: Threads + Wait + Sync, R: Read, W: Write, G: Gate
     }
 }
 
-// Lines that were served are done.
+// Returns `Done` if the lines were served, and the fault otherwise.
 fn as_done(served: Result<(), ServeFault>) -> Result<Ending, ServeFault>
     ensures { result ≡ as_done served }
 {

@@ -1,4 +1,4 @@
-//! Why a session of the program ends, and how that is told.
+//! Why a session of the program ends, and how that is reported.
 ghost use Rattle.std.specs.Prelude.{◌≡◌, ◌++◌, codes, IfOk};
 ghost use Rattle.rc_streams.specs.Input.{AppendsFront, fault_line};
 ghost use Rattle.rc_cli.specs.SessionFaults.{IsGateFailing, IsLiveFailing, IsRefusal};
@@ -88,7 +88,7 @@ impl From<ServeFault> for SessionFault<'_> {
     }
 }
 
-/// Tells why a session ended, and returns the status.
+/// Reports why a session ended, and returns the exit status.
 pub(crate) fn tell_session_fault<F: Write>(
     alloc: Global,
     faults: &mut F,
@@ -105,7 +105,7 @@ pub(crate) fn tell_session_fault<F: Write>(
     }
 }
 
-// Tells a refusal, or that there was no memory to tell it, and returns the status.
+// Reports a refusal, or that there was no memory to report it, and returns the exit status.
 fn tell_refusal<F: Write>(alloc: Global, faults: &mut F, fault: SessionFault<'_>) -> u8
     requires { IsRefusal fault }
     ensures { IsTold fault.entry result (F.contents faults.old) (F.contents faults.new) }
@@ -121,7 +121,7 @@ fn tell_refusal<F: Write>(alloc: Global, faults: &mut F, fault: SessionFault<'_>
     }
 }
 
-// Tells a fault of serving, and answers the status.
+// Reports a fault of serving, and returns the exit status.
 fn fail_serving<F: Write>(faults: &mut F, fault: ServeFault) -> u8
     ensures status { result ≡ 111 }
     ensures told { AppendsFront (F.contents faults.old) (F.contents faults.new)
@@ -131,7 +131,7 @@ fn fail_serving<F: Write>(faults: &mut F, fault: ServeFault) -> u8
     FAILED
 }
 
-// A fault of serving in words.
+// Returns the word for a fault of serving.
 fn serve_word(fault: ServeFault) -> &'static [u8]
     ensures { result.now ≡ serve_word fault }
 {
@@ -147,7 +147,7 @@ fn serve_word(fault: ServeFault) -> &'static [u8]
     }
 }
 
-// A fault in words: of an unknown name, or of a longrun, the name, too.
+// Returns the words for a fault, with the name if it is about an unknown name or a longrun.
 fn text_of(alloc: Global, fault: &SessionFault<'_>) -> Result<Vec<u8>, NoMem>
     ensures { IfOk result (λ text. text.items ≡ session_fault_text fault.now) }
 {
@@ -160,7 +160,7 @@ fn text_of(alloc: Global, fault: &SessionFault<'_>) -> Result<Vec<u8>, NoMem>
     }
 }
 
-// That no program controls the longrun of this name, in words.
+// Returns the words for a longrun of the given name that no program controls.
 fn uncontrolled_word(alloc: Global, name: &str) -> Result<Vec<u8>, NoMem>
     ensures { IfOk result (λ text. text.items ≡ codes "NoController " ++ name.now) }
 {

@@ -9,8 +9,8 @@ use rc_session::Command;
 use rc_set::NoMem;
 use std::alloc::Global;
 
-/// The line of a step: the change of these names or, where it is only shown, its plan. It has the
-/// greatest limit that there is, so that it can be called off.
+/// Creates the line of a step: the change of the given names or, if it is only shown, its plan. The
+/// line has the greatest limit that there is, so that it can be called off.
 pub fn step_line(dry: bool, mode: Mode, names: Vec<String>) -> SessionLine
     ensures says { saying_of result ≡ step_by dry (step_ask mode (map string_bytes names.items)) }
 {
@@ -21,7 +21,7 @@ pub fn step_line(dry: bool, mode: Mode, names: Vec<String>) -> SessionLine
     SessionLine::Command(Command::Change(request))
 }
 
-/// A copy of names.
+/// Returns a copy of names.
 pub fn copied(alloc: Global, names: &[String]) -> Result<Vec<String>, NoMem>
     ensures { IfOk result (λ copy. map string_bytes copy.items ≡ map string_bytes names.now) }
 {

@@ -22,9 +22,9 @@ use rc_streams::{Failure, Noted};
 use std::alloc::Global;
 use std::io::Write;
 
-/// Compiles the service directories of trees, and answers the status.
+/// Compiles the service directories of trees, and returns the exit status.
 ///
-/// The text of their database is written to `writer`, and why there is none to `faults`.
+/// Writes the text of their database to `writer`, or the reason why there is none to `faults`.
 pub fn compile_run<T: Tree, W: Write, F: Write>(
     alloc: Global,
     trees: &mut [T],
@@ -33,20 +33,19 @@ pub fn compile_run<T: Tree, W: Write, F: Write>(
 ) -> u8
     ensures statuses { (result ≡ 0) ⊎ (result ≡ 1) ⊎ (result ≡ 111) }
 
-    // What was written is the text of the database of what the trees' files say, and nothing was
-    // told.
+    // The text of the database of what the trees' files say was written, and nothing was reported.
     ensures done { result ≡ 0 → WritesAll (IsCompiled (map T.held trees.old))
         (W.contents (inner_of writer.old)) (W.contents (inner_of writer.new)) }
     ensures untold { result ≡ 0 → F.contents faults.new ≡ F.contents faults.old }
 
-    // A refusal holds, and a prefix of its line was told, or all of it. Nothing was written.
+    // The refusal is right. Its line, or a prefix of it, was reported, and nothing was written.
     ensures refused { result ≡ 1 → TellsRefusal (map T.held trees.old) (F.contents faults.old)
         (F.contents faults.new) }
     ensures unwritten { result ≡ 1 → W.contents (inner_of writer.new)
         ≡ W.contents (inner_of writer.old) }
 
-    // A device that failed is told with its entry, a writer that failed as that, and else that
-    // memory ran out; what was written is nothing or a prefix of the text.
+    // A device that failed is reported with its entry, and a writer that failed as such. Otherwise
+    // it is reported that memory ran out. Nothing or a prefix of the text was written.
     ensures failed { result ≡ 111 → TellsDevice (map T.held trees.old) (map T.failed trees.old)
         (map T.failed trees.new) (F.contents faults.old) (F.contents faults.new)
         ⊎ TellsWant (HasFailed writer.new) (F.contents faults.old) (F.contents faults.new) }
@@ -65,8 +64,8 @@ pub fn compile_run<T: Tree, W: Write, F: Write>(
     }
 }
 
-/// The text of the database of what the trees' files say, for a caller that has a place of its own
-/// for it; `tell_trees` tells why there is none.
+/// Returns the text of the database of what the trees' files say, for a caller that has its own
+/// place for it. If there is none, `tell_trees` reports why.
 pub fn text_of<T: Tree>(alloc: Global, trees: &mut [T]) -> Result<Vec<u8>, TreesFault>
     ensures text { IfOk result (λ text. IsCompiled (map T.held trees.old) text.items) }
     ensures fault { IfErr result (IsTreesFault (map T.held trees.old)) }
@@ -81,7 +80,7 @@ pub fn text_of<T: Tree>(alloc: Global, trees: &mut [T]) -> Result<Vec<u8>, Trees
     compiled(alloc, &definitions)
 }
 
-/// The text of the database of definitions.
+/// Returns the text of the database of definitions.
 fn compiled(alloc: Global, definitions: &[Definition]) -> Result<Vec<u8>, TreesFault>
     requires { AreMeanings (map meaning_of definitions.now) }
     ensures text { IfOk result (λ text. IsTextOf (map meaning_of definitions.now) text.items) }
@@ -97,7 +96,7 @@ fn compiled(alloc: Global, definitions: &[Definition]) -> Result<Vec<u8>, TreesF
     text
 }
 
-/// The text of a database.
+/// Returns the text of a database.
 fn written(alloc: Global, db: &Db) -> Result<Vec<u8>, TreesFault>
     ensures text { IfOk result (λ text. text.items ≡ spelling db.now) }
     ensures fault { IfErr result (λ fault. fault ≡ Memory) }

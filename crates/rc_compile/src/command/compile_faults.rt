@@ -1,4 +1,4 @@
-//! Why `compile` writes nothing, and how that is told.
+//! Why `compile` writes nothing, and how that is reported.
 ghost use Rattle.std.specs.Prelude.{◌≡◌, ◌⊎◌, ◌∷◌, [], ◌++◌, IfOk, OnOk};
 ghost use Rattle.rc_compile.specs.CompileRefusals.{IsDeviceFault, IsRefusal, compile_text};
 ghost use Rattle.rc_compile.specs.CompileRefusals.{flaw_text, flaw_word, word_with_names};
@@ -38,7 +38,7 @@ impl From<AllocError> for TreesFault {
     }
 }
 
-/// Tells why there is no text, and answers the status.
+/// Reports why there is no text, and returns the exit status.
 pub fn tell_trees<F: Write>(alloc: Global, faults: &mut F, fault: &TreesFault) -> u8
     ensures statuses { (result ≡ 1) ⊎ (result ≡ 111) }
     ensures refused { result ≡ 1 → IsRefusal fault.now
@@ -60,7 +60,7 @@ pub fn tell_trees<F: Write>(alloc: Global, faults: &mut F, fault: &TreesFault) -
     }
 }
 
-/// The status of a fault.
+/// Returns the exit status of a fault.
 fn status_of(fault: &TreesFault) -> u8
     ensures statuses { (result ≡ 1) ⊎ (result ≡ 111) }
     ensures refused { result ≡ 1 → IsRefusal fault.now }
@@ -77,7 +77,7 @@ fn status_of(fault: &TreesFault) -> u8
     }
 }
 
-/// A fault in words.
+/// Returns a fault in words.
 fn trees_text(alloc: Global, fault: &TreesFault) -> Result<Vec<u8>, NoMem>
     ensures { IfOk result (λ text. text.items ≡ trees_text fault.now) }
 {
@@ -88,7 +88,7 @@ fn trees_text(alloc: Global, fault: &TreesFault) -> Result<Vec<u8>, NoMem>
     }
 }
 
-/// A flaw with the name of its entry, if it has one.
+/// Returns the word of a flaw, with the name of its entry after it, if it has one.
 fn flaw_text(alloc: Global, flaw: Flaw, entry: &str) -> Result<Vec<u8>, NoMem>
     ensures { IfOk result (λ text. text.items ≡ flaw_text flaw entry.now) }
 {
@@ -99,7 +99,7 @@ fn flaw_text(alloc: Global, flaw: Flaw, entry: &str) -> Result<Vec<u8>, NoMem>
     Ok(text)
 }
 
-/// The word of a flaw.
+/// Returns the word of a flaw.
 fn flaw_word(flaw: Flaw) -> &'static [u8]
     ensures { result.now ≡ flaw_word flaw }
 {
@@ -118,7 +118,7 @@ fn flaw_word(flaw: Flaw) -> &'static [u8]
     }
 }
 
-/// What is wrong with definitions, with its names.
+/// Returns the word of a fault of definitions, with its names after it.
 fn compile_text(alloc: Global, fault: &CompileFault) -> Result<Vec<u8>, NoMem>
     ensures { IfOk result (λ text. text.items ≡ compile_text fault.now) }
 {
@@ -134,14 +134,14 @@ fn compile_text(alloc: Global, fault: &CompileFault) -> Result<Vec<u8>, NoMem>
     }
 }
 
-/// A word with a name after it.
+/// Returns a word with a name after it.
 fn told_one(alloc: Global, word: &[u8], name: &Name) -> Result<Vec<u8>, NoMem>
     ensures { IfOk result (λ text. text.items ≡ word_with_names word.now (name.now ∷ [])) }
 {
     told_all(alloc, word, slice::from_ref(name))
 }
 
-/// A word with two names after it.
+/// Returns a word with two names after it.
 fn told_two(alloc: Global, word: &[u8], first: &Name, second: &Name) -> Result<Vec<u8>, NoMem>
     ensures { IfOk result (λ text. text.items
         ≡ word_with_names word.now (first.now ∷ second.now ∷ [])) }
@@ -151,7 +151,7 @@ fn told_two(alloc: Global, word: &[u8], first: &Name, second: &Name) -> Result<V
     Ok(text)
 }
 
-/// A word with names after it.
+/// Returns a word with names after it.
 fn told_all(alloc: Global, word: &[u8], names: &[Name]) -> Result<Vec<u8>, NoMem>
     ensures { IfOk result (λ text. text.items ≡ word_with_names word.now names.now) }
 {

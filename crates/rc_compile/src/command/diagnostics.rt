@@ -1,6 +1,6 @@
-//! What helps after a fault: which file, which line, what stands there and what may. A hint is
-//! looked for after the fault was told, and is for people: it changes no status, and where nothing
-//! is found there is none.
+//! Hints after a fault: which file, which line, what stands there and what may stand there. They
+//! are looked for after the fault was reported, and are for people. They change no exit status. If
+//! nothing is found, there is no hint.
 
 mod chains;
 mod entries;

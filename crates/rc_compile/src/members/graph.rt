@@ -22,7 +22,7 @@ use thiserror::Error;
 /// Why names have no graph.
 #[derive(Debug, Drop, Error)]
 pub enum CycleFault {
-    /// Each of them needs or holds the next, the last the first. The first is the least.
+    /// Each name needs or holds the next one, and the last the first. The first is the least.
     #[error("names go round in a circle")]
     Cycle(Vec<Name>),
     /// There was no room for the graph.
@@ -30,8 +30,8 @@ pub enum CycleFault {
     Memory,
 }
 
-/// Which bundle holds which by its contents. A bundle is its place among the names of
-/// bundles, those of pipelines with them.
+/// Returns the graph of which bundle holds which by its contents. A bundle is its place among the
+/// names of bundles, including those of pipelines.
 pub fn bundle_graph(
     alloc: Global,
     definitions: &[Definition],
@@ -58,7 +58,7 @@ pub fn bundle_graph(
     }
 }
 
-// The pairs of bundles of which one has the other in its contents.
+// Returns the pairs of bundles of which one has the other in its contents.
 fn content_draft(alloc: Global, definitions: &[Definition], bundles: &Names) -> Result<Draft, NoMem>
     ensures { IfOk result (λ draft. Mirrors
         (HasContent (map meaning_of definitions.now)) bundles.now bundles.now draft) }
@@ -68,7 +68,7 @@ fn content_draft(alloc: Global, definitions: &[Definition], bundles: &Names) -> 
     Ok(draft)
 }
 
-/// A cycle of ids by the names at their places.
+/// Returns the fault that shows a cycle of ids by the names at their places.
 pub fn shown_cycle(alloc: Global, names: &Names, cycle: &Cycle) -> CycleFault
     requires { All (λ s. s < length names.now) cycle.now }
     ensures { IsShownBy (map (λ s. slice_index_or names.now s []) cycle.now) result }
@@ -79,7 +79,7 @@ pub fn shown_cycle(alloc: Global, names: &Names, cycle: &Cycle) -> CycleFault
     }
 }
 
-/// Says that the ids of names need those of the names that their definitions list.
+/// Records that the ids of names need those of the names that their definitions list.
 pub fn need_listed(
     alloc: Global,
     draft: &mut Draft,
@@ -97,7 +97,7 @@ pub fn need_listed(
     need_lists(draft, &lists)
 }
 
-// Says that ids need those in their lists.
+// Records that ids need those in their lists.
 fn need_lists(draft: &mut Draft, lists: &[Vec<u16>]) -> Result<(), NoMem>
     requires bound { length lists.now ≡ length draft.old }
     requires known { AreServices (rows lists.now) }
@@ -111,7 +111,7 @@ fn need_lists(draft: &mut Draft, lists: &[Vec<u16>]) -> Result<(), NoMem>
     Ok(())
 }
 
-/// Says of each of a list that an id needs it.
+/// Records that an id needs each id of a list.
 pub fn need_all(draft: &mut Draft, id: u16, list: &[u16]) -> Result<(), NoMem>
     requires id { id < length draft.old }
     requires known { All (λ t. t < length draft.old) list.now }

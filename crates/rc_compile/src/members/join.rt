@@ -8,8 +8,8 @@ use rc_graph::Graph;
 use rc_set::{NoMem, Set};
 use std::alloc::Global;
 
-// Gives each id's set the sets of all that it reaches too: one pass in the order of the graph, so
-// that each is whole before another takes it.
+// Adds to the set of each id the sets of all that it reaches. Takes one pass in the order of the
+// graph, so that each set is complete before another takes it.
 pub(crate) fn join_along(
     alloc: Global,
     graph: &Graph,
@@ -31,7 +31,7 @@ pub(crate) fn join_along(
     Ok(())
 }
 
-// The set of an id together with those of a list.
+// Returns the set of an id together with those of the ids in a list.
 fn joined(alloc: Global, sets: &[Set], id: u16, list: &[u16], bound: u16) -> Result<Set, NoMem>
     requires id { id < length sets.now }
     requires known { All (λ t. t < length sets.now) list.now }

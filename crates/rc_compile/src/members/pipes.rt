@@ -15,8 +15,8 @@ use rc_set::{NoMem, Set};
 use rc_source::Definition;
 use std::alloc::Global;
 
-/// The name of the pipeline that a definition names: it is a longrun that reads from others and
-/// writes to none.
+/// Returns the name of the pipeline that a definition names. Only a longrun that reads from others
+/// and writes to none names one.
 pub fn pipeline_name(definition: &Definition) -> Option<&Name>
     ensures some { IfSome result (λ name. NamesPipeline (meaning_of definition.now) name.now) }
     ensures none { IfNone result ((name : List ℕ) → NamesPipeline (meaning_of definition.now) name →
@@ -31,8 +31,8 @@ pub fn pipeline_name(definition: &Definition) -> Option<&Name>
     definition.pipeline_name.as_ref()
 }
 
-// Puts what each pipeline holds into the set of its bundle. The lists say
-// which service reads from which.
+// Adds what each pipeline holds to the set of its bundle. The lists say which service reads from
+// which.
 pub(crate) fn add_pipelines(
     alloc: Global,
     sets: &mut [Set],
@@ -58,7 +58,7 @@ pub(crate) fn add_pipelines(
     Ok(())
 }
 
-// Puts what the pipeline of a definition holds into the set of its bundle, if it names one.
+// Adds what the pipeline of a definition holds to the set of its bundle, if it names one.
 fn add_pipeline(
     alloc: Global,
     sets: &mut [Set],
@@ -90,7 +90,7 @@ fn add_pipeline(
     Ok(())
 }
 
-// Puts a set into that of a bundle, if the name is that of one.
+// Adds a set to that of a bundle, if the name is that of one.
 fn add_set(sets: &mut [Set], bundles: &Names, name: &Name, set: &Set)
     requires few { length sets.old ≡ length bundles.now }
     requires bounds { AllWithin (length set.now) sets.old }

@@ -26,8 +26,8 @@ pub enum Listed {
     Producer,
 }
 
-/// For each name of the first table the places, in the second, of what its definition lists. A name
-/// that is in neither table is passed over.
+/// Returns, for each name of the first table, the places in the second table of what its definition
+/// lists. Skips definitions that are not in the first table, and names that are not in the second.
 pub fn rows_of(
     alloc: Global,
     definitions: &[Definition],
@@ -45,7 +45,7 @@ pub fn rows_of(
     Ok(lists)
 }
 
-// As many empty lists.
+// Creates as many empty lists as `count` says.
 fn empty_rows(alloc: Global, count: u16) -> Result<Vec<Vec<u16>>, NoMem>
     ensures { IfOk result (λ lists. rows lists.items ≡ replicate count []) }
 {
@@ -56,7 +56,7 @@ fn empty_rows(alloc: Global, count: u16) -> Result<Vec<Vec<u16>>, NoMem>
     Ok(lists)
 }
 
-// Puts in what a definition lists, where its name is in the first table.
+// Adds the places of what a definition lists, if its name is in the first table.
 fn add_row(
     lists: &mut [Vec<u16>],
     definition: &Definition,
@@ -78,7 +78,7 @@ fn add_row(
     Ok(())
 }
 
-// Puts in the places of what a definition lists.
+// Adds the places of what a definition lists.
 fn add_listed(
     ids: &mut Vec<u16>,
     definition: &Definition,
@@ -97,7 +97,7 @@ fn add_listed(
     }
 }
 
-// Puts in the place of a name, if there is one and it is in the table.
+// Adds the place of a name, if there is one and it is in the table.
 fn add_one(ids: &mut Vec<u16>, name: &Option<Name>, to: &Names) -> Result<(), NoMem>
     ensures { OnOk result ((t : ℕ) → Contains ids.new.items t ↔ (Contains ids.old.items t
         ⊎ ((b : List ℕ) × (slice_get to.now t ≡ Some b) × Contains (option_to_list name.now) b))) }
@@ -108,7 +108,7 @@ fn add_one(ids: &mut Vec<u16>, name: &Option<Name>, to: &Names) -> Result<(), No
     }
 }
 
-// Puts in the places of names that are in the table.
+// Adds the places of names that are in the table.
 fn add_all(ids: &mut Vec<u16>, names: &[Name], to: &Names) -> Result<(), NoMem>
     ensures { OnOk result ((t : ℕ) → Contains ids.new.items t ↔ (Contains ids.old.items t
         ⊎ ((b : List ℕ) × (slice_get to.now t ≡ Some b) × Contains names.now b))) }
@@ -119,7 +119,7 @@ fn add_all(ids: &mut Vec<u16>, names: &[Name], to: &Names) -> Result<(), NoMem>
     Ok(())
 }
 
-// Puts in the place of a name, if it is in the table.
+// Adds the place of a name, if it is in the table.
 fn add_place(ids: &mut Vec<u16>, name: &Name, to: &Names) -> Result<(), NoMem>
     ensures { OnOk result ((t : ℕ) → Contains ids.new.items t
         ↔ (Contains ids.old.items t ⊎ (slice_get to.now t ≡ Some name.now))) }

@@ -21,8 +21,8 @@ use rc_set::{NoMem, Set};
 use rc_source::Definition;
 use std::alloc::Global;
 
-/// For each bundle, those of pipelines with them, the services that its name stands for. A bundle
-/// or a service is its place among the names of its kind.
+/// Returns, for each bundle, including those of pipelines, the services that its name stands for. A
+/// bundle or a service is its place among the names of its kind.
 ///
 /// Time: grows with what the definitions list, and with the bundles and the
 /// bundles in them times the services.
@@ -54,7 +54,7 @@ pub fn bundle_sets(
     Ok(sets)
 }
 
-// For each bundle the services that it holds itself, by its contents or as a pipeline.
+// Returns, for each bundle, the services that it holds itself, by its contents or as a pipeline.
 fn held_sets(
     alloc: Global,
     definitions: &[Definition],
@@ -78,7 +78,7 @@ fn held_sets(
     Ok(sets)
 }
 
-// For each bundle the services in its contents.
+// Returns, for each bundle, the services in its contents.
 fn content_sets(
     alloc: Global,
     definitions: &[Definition],
@@ -96,7 +96,7 @@ fn content_sets(
     sets_of(alloc, &contents, bound)
 }
 
-// The sets of lists.
+// Returns the sets of the ids in some lists.
 fn sets_of(alloc: Global, lists: &[Vec<u16>], bound: u16) -> Result<Vec<Set>, NoMem>
     requires bound { bound ≤ 4096 }
     requires known { (s t : ℕ) → Needs (rows lists.now) s t → t < bound }
@@ -114,7 +114,7 @@ fn sets_of(alloc: Global, lists: &[Vec<u16>], bound: u16) -> Result<Vec<Set>, No
     Ok(sets)
 }
 
-// The set of a list.
+// Returns the set of the ids in a list.
 fn set_of(alloc: Global, list: &[u16], bound: u16) -> Result<Set, NoMem>
     requires bound { bound ≤ 4096 }
     requires known { All (λ t. t < bound) list.now }

@@ -5,7 +5,7 @@ use rc_names::{Name, Names};
 use rc_set::NoMem;
 use std::alloc::{AllocError, Global};
 
-/// The names at some places of a table, in their order.
+/// Returns the names at some places of a table, in the order of the places.
 pub fn names_at(alloc: Global, names: &Names, ids: &[u16]) -> Result<Vec<Name>, NoMem>
     requires { All (λ s. s < length names.now) ids.now }
     ensures { IfOk result (λ shown. shown.items
@@ -18,7 +18,7 @@ pub fn names_at(alloc: Global, names: &Names, ids: &[u16]) -> Result<Vec<Name>, 
     Ok(shown)
 }
 
-// Another value of the same name.
+// Returns a copy of a name.
 fn copy_of(alloc: Global, name: &Name) -> Result<Name, NoMem>
     ensures { IfOk result (λ copy. copy ≡ name.now) }
 {

@@ -9,14 +9,14 @@ ghost use Rattle.rc_compile.specs.Walking.{Meets};
 use rc_set::{NoMem, Set};
 use std::alloc::Global;
 
-// What was met, and those of it whose lists are still to be followed.
+// The ids that were met, and those of them whose lists are still to be followed.
 #[derive(Drop)]
 struct Walk {
     seen: Set,
     todo: Vec<u16>,
 }
 
-// An id with all that it reaches along the lists. Each list is followed once at most.
+// Returns an id with all that it reaches along the lists. Follows each list at most once.
 pub(crate) fn reached(alloc: Global, lists: &[Vec<u16>], start: u16) -> Result<Set, NoMem>
     requires few { length lists.now ≤ 4096 }
     requires known { AreServices (rows lists.now) }
@@ -32,7 +32,7 @@ pub(crate) fn reached(alloc: Global, lists: &[Vec<u16>], start: u16) -> Result<S
     Ok(seen)
 }
 
-// A walk that has met one id.
+// Creates a walk that has met one id.
 fn begin(alloc: Global, bound: u16, start: u16) -> Result<Walk, NoMem>
     requires bound { bound ≤ 4096 }
     requires start { start < bound }
@@ -47,7 +47,7 @@ fn begin(alloc: Global, bound: u16, start: u16) -> Result<Walk, NoMem>
     Ok(Walk { seen, todo })
 }
 
-// Meets all of a list.
+// Meets all ids of a list.
 fn meet_all(walk: &mut Walk, list: &[u16]) -> Result<(), NoMem>
     requires { All (λ t. t < length walk.old.seen) list.now }
     ensures { OnOk result
@@ -59,7 +59,7 @@ fn meet_all(walk: &mut Walk, list: &[u16]) -> Result<(), NoMem>
     Ok(())
 }
 
-// Meets an id: if it is new, its list is to be followed.
+// Meets an id. If the id is new, its list is to be followed.
 fn meet(walk: &mut Walk, id: u16) -> Result<(), NoMem>
     requires { id < length walk.old.seen }
     ensures bound { length walk.new.seen ≡ length walk.old.seen }

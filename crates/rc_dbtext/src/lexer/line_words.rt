@@ -24,7 +24,7 @@ impl<'a> Model for Words<'a> {
 }
 
 impl<'a> Words<'a> {
-    /// The words of a line without its newline.
+    /// Returns the words of a line, which is given without its newline.
     pub(crate) fn of(line: &'a str) -> Words<'a>
         ensures { result ≡ slice_split (λ byte. byte == 32) line.now }
     {
@@ -49,7 +49,7 @@ impl<'a> Words<'a> {
         }
     }
 
-    /// How many words are left, for room that is asked for in advance.
+    /// Returns the number of words that are left, to reserve room in advance.
     pub fn count(&self) -> usize {
         match self.rest {
             Some(line) => memchr_iter(b' ', line.as_bytes()).count().saturating_add(1),
@@ -58,7 +58,7 @@ impl<'a> Words<'a> {
     }
 }
 
-// The first word of a line that has more than one, and the line of the others.
+// Splits a line that has more than one word. Returns the first word and the line of the others.
 fn cut(line: &str) -> Option<(&str, &str)>
     ensures some { IfSome result (λ cut. (line.now ≡ cut.0.now ++ 32 ∷ cut.1.now)
         × All (λ byte. byte ≢ 32) cut.0.now) }

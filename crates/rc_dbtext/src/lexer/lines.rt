@@ -22,7 +22,8 @@ impl<'a> Model for BundleForm<'a> {
     ghost view = { λ b. record { name = b.name; members = b.members.items } };
 }
 
-/// The number after this word in a line of the two at the beginning, and what follows that line.
+/// Reads a line of two words at the beginning: `word`, and a number. Returns the number and what
+/// follows that line.
 pub fn number_line<'a>(bytes: &'a [u8], word: &str) -> Option<(&'a str, &'a [u8])>
     requires { IsPlain word.now }
     ensures { MatchOption result
@@ -43,7 +44,7 @@ pub fn number_line<'a>(bytes: &'a [u8], word: &str) -> Option<(&'a str, &'a [u8]
     }
 }
 
-/// The one word after this word, where there is one.
+/// Returns the one word after `word`, if these two are all the words.
 pub fn argument<'a>(words: Words<'a>, word: &str) -> Option<&'a str>
     ensures { MatchOption result ((other : List ℕ) → words.entry ≡ word.now ∷ other ∷ [] → ⊥)
         (λ other. words.entry ≡ word.now ∷ other.now ∷ []) }
@@ -56,7 +57,7 @@ pub fn argument<'a>(words: Words<'a>, word: &str) -> Option<&'a str>
     }
 }
 
-/// The words after this word.
+/// Returns the words after `word`, if it is the first.
 pub fn arguments<'a>(words: Words<'a>, word: &str) -> Option<Words<'a>>
     ensures { MatchOption result ((others : List (List ℕ)) → words.entry ≡ word.now ∷ others → ⊥)
         (λ others. words.entry ≡ word.now ∷ others) }

@@ -25,7 +25,7 @@ impl<'a> Model for NameWord<'a> {
 }
 
 impl<'a> NameWord<'a> {
-    /// The word as a name, if it is one.
+    /// Returns the word as a name, if it is one.
     pub fn read(word: &'a str) -> Option<NameWord<'a>>
         ensures { MatchOption result (IsName word.now → ⊥)
             (λ name. (name ≡ word.now) × IsName word.now) }
@@ -37,7 +37,7 @@ impl<'a> NameWord<'a> {
         }
     }
 
-    /// The name as text.
+    /// Returns the name as text.
     pub fn text(&self) -> &str
         ensures bytes { result.now ≡ self.now }
         ensures name { IsName self.now }
@@ -45,7 +45,7 @@ impl<'a> NameWord<'a> {
         self.text
     }
 
-    /// The name by itself.
+    /// Returns a copy of the name that stands by itself.
     pub fn copy(&self, alloc: Global) -> Result<Name, AllocError>
         ensures { IfOk result (λ name. name ≡ self.now) }
     {
@@ -53,7 +53,7 @@ impl<'a> NameWord<'a> {
     }
 }
 
-/// The words as names, if each is one.
+/// Returns the words as names, if each is one.
 pub fn names_of<'a>(
     alloc: Global,
     words: Words<'a>,

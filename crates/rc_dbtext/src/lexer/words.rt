@@ -10,8 +10,8 @@ ghost use Rattle.rc_dbtext.specs.Words.{BeginsWith, IsNumber, line_of_words};
 use crate::lexer::line_words::Words;
 use memchr::memchr;
 
-/// The words of the line at the beginning, and what follows it. None: no whole line of text stands
-/// there.
+/// Reads the line at the beginning. Returns its words and what follows it, or `None` if no whole
+/// line of text stands there.
 pub fn words_of(bytes: &[u8]) -> Option<(Words<'_>, &[u8])>
     ensures { MatchOption result
         ((words : List (List ℕ)) (rest : List ℕ) → All IsUtf8 words
@@ -27,7 +27,7 @@ pub fn words_of(bytes: &[u8]) -> Option<(Words<'_>, &[u8])>
     }
 }
 
-// The line at the beginning without its newline, and what follows it.
+// Splits off the line at the beginning. Returns it without its newline, and what follows it.
 fn cut(bytes: &[u8]) -> Option<(&[u8], &[u8])>
     ensures line { IfSome result (λ cut. (bytes.now ≡ cut.0.now ++ 10 ∷ cut.1.now)
         × All (λ byte. byte ≢ 10) cut.0.now) }
@@ -37,14 +37,14 @@ fn cut(bytes: &[u8]) -> Option<(&[u8], &[u8])>
     Some((&bytes[..end], &bytes[end + 1..]))
 }
 
-/// Whether a word is this one.
+/// Returns true if a word is `text`.
 pub fn is(word: &str, text: &str) -> bool
     ensures { IsTrue result ↔ (word.now ≡ text.now) }
 {
     word == text
 }
 
-/// The number that a word writes, if it is at most this one.
+/// Returns the number that a word writes, if it is at most `most`.
 pub fn number_of(word: &str, most: u32) -> Option<u32>
     ensures { MatchOption result ((n : ℕ) → n ≤ most → word.now ≡ decimal n → ⊥)
         (λ n. (n ≤ most) × (word.now ≡ decimal n)) }
@@ -56,14 +56,14 @@ pub fn number_of(word: &str, most: u32) -> Option<u32>
     }
 }
 
-/// Whether a word is a number in decimal, without a sign and without leading zeros.
+/// Returns true if a word is a number in decimal, without a sign and without leading zeros.
 pub fn is_number(word: &str) -> bool
     ensures { IsTrue result ↔ IsNumber word.now }
 {
     are_number(word.as_bytes())
 }
 
-// Whether bytes are a number in decimal, without a sign and without leading zeros.
+// Returns true if bytes are a number in decimal, without a sign and without leading zeros.
 fn are_number(digits: &[u8]) -> bool
     ensures { IsTrue result ↔ IsNumber digits.now }
 {
@@ -71,7 +71,7 @@ fn are_number(digits: &[u8]) -> bool
     !digits.is_empty() && is_plain && digits.iter().all(u8::is_ascii_digit)
 }
 
-/// The number that digits write, if it is at most this one.
+/// Returns the number that digits write, if it is at most `most`.
 pub fn value_of(digits: &str, most: u32) -> Option<u32>
     requires { IsNumber digits.now }
     ensures { MatchOption result (most < digits_value 10 digits.now)
@@ -80,7 +80,7 @@ pub fn value_of(digits: &str, most: u32) -> Option<u32>
     value_in(digits.as_bytes(), most)
 }
 
-// The number that digits write, if it is at most this one.
+// Returns the number that digits write, if it is at most `most`.
 fn value_in(digits: &[u8], most: u32) -> Option<u32>
     requires { IsNumber digits.now }
     ensures { MatchOption result (most < digits_value 10 digits.now)

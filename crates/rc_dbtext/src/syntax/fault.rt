@@ -4,7 +4,7 @@ use thiserror::Error;
 /// Why bytes do not begin with the text of a database, by their form alone.
 #[derive(Clone, Copy, PartialEq, Eq, Debug, Error)]
 pub enum FormFault {
-    /// A line has not the form that is due. So many bytes are left from it on.
+    /// A line does not have the form that is due. This many bytes are left, from that line on.
     Bad(usize),
     /// The first line names another version.
     Version,
@@ -13,7 +13,7 @@ pub enum FormFault {
     Memory,
 }
 
-// What is told of a fault, but for where it is.
+// Returns the message of a fault, without its place.
 fn told_of(fault: &FormFault) -> &'static str {
     match fault {
         FormFault::Bad(_) => "a line has not the form that is due",

@@ -57,7 +57,7 @@ impl<'a> Model for DbForm<'a> {
     ghost view = { λ f. record { services = f.services.items; bundles = f.bundles.items } };
 }
 
-/// What the text at the beginning says, and what follows it.
+/// Parses the text at the beginning of the bytes. Returns what it says, and what follows it.
 pub fn read_form<'a>(alloc: Global, bytes: &'a [u8]) -> Result<(DbForm<'a>, &'a [u8]), FormFault>
     ensures ok { IfOk result (λ read. IsRead IsDbText db_lines bytes.now read.0 read.1.now) }
     ensures fault { IfErr result (IsRefused IsDbText db_lines bytes.now) }
@@ -69,7 +69,7 @@ pub fn read_form<'a>(alloc: Global, bytes: &'a [u8]) -> Result<(DbForm<'a>, &'a 
     Ok((DbForm { services, bundles }, last))
 }
 
-// The services after their count, and what follows them.
+// Parses the services after their count. Returns them and what follows them.
 fn all_services<'a>(
     alloc: Global,
     bytes: &'a [u8],
@@ -84,7 +84,7 @@ fn all_services<'a>(
     Ok((services, rest))
 }
 
-// The bundles after their count, and what follows them.
+// Parses the bundles after their count. Returns them and what follows them.
 fn all_bundles<'a>(
     alloc: Global,
     bytes: &'a [u8],
@@ -99,7 +99,7 @@ fn all_bundles<'a>(
     Ok((bundles, rest))
 }
 
-// So many services, and what follows them.
+// Parses `count` services. Returns them and what follows them.
 fn services_of<'a>(
     alloc: Global,
     bytes: &'a [u8],
@@ -122,7 +122,7 @@ fn services_of<'a>(
     Ok((services, rest))
 }
 
-// So many bundles, and what follows them.
+// Parses `count` bundles. Returns them and what follows them.
 fn bundles_of<'a>(
     alloc: Global,
     bytes: &'a [u8],
@@ -145,7 +145,7 @@ fn bundles_of<'a>(
     Ok((bundles, rest))
 }
 
-// A service, and what follows it.
+// Parses a service. Returns it and what follows it.
 fn service_of<'a>(alloc: Global, bytes: &'a [u8]) -> Result<(ServiceForm<'a>, &'a [u8]), FormFault>
     ensures ok { IfOk result (λ read.
         IsRead IsServiceText service_lines bytes.now read.0 read.1.now) }
@@ -157,7 +157,7 @@ fn service_of<'a>(alloc: Global, bytes: &'a [u8]) -> Result<(ServiceForm<'a>, &'
     Ok((ServiceForm { head, needs, body }, rest))
 }
 
-// What follows the needs of a service of this kind, and what follows that.
+// Parses the lines after the needs of a service of this kind. Returns them and what follows them.
 fn body_of(bytes: &[u8], kind: Kind) -> Result<(BodyForm<'_>, &[u8]), FormFault>
     requires { (kind ≡ kinds.Bundle) → ⊥ }
     ensures ok { IfOk result (λ read. IsRead (IsBody kind) body_lines bytes.now
@@ -171,7 +171,7 @@ fn body_of(bytes: &[u8], kind: Kind) -> Result<(BodyForm<'_>, &[u8]), FormFault>
     }
 }
 
-// What follows the needs of a oneshot, and what follows that.
+// Parses the lines after the needs of a oneshot. Returns them and what follows them.
 fn oneshot_of(bytes: &[u8]) -> Result<(BodyForm<'_>, &[u8]), FormFault>
     ensures ok { IfOk result (λ read. IsRead (IsBody kinds.Oneshot) body_lines bytes.now
         (body_text read.0) read.1.now) }
@@ -182,7 +182,7 @@ fn oneshot_of(bytes: &[u8]) -> Result<(BodyForm<'_>, &[u8]), FormFault>
     Ok((BodyForm::Oneshot(up, down), rest))
 }
 
-// What follows the needs of a longrun, and what follows that.
+// Parses the line after the needs of a longrun. Returns it and what follows it.
 fn longrun_of(bytes: &[u8]) -> Result<(BodyForm<'_>, &[u8]), FormFault>
     ensures ok { IfOk result (λ read. IsRead (IsBody kinds.Longrun) body_lines bytes.now
         (body_text read.0) read.1.now) }

@@ -13,14 +13,14 @@ pub fn text_is_unique()
         db_text a ++ x ≡ db_text b ++ y → a ≡ b }
 {}
 
-/// Bytes that begin with a text are refused by no line of it, whatever follows.
+/// States that no line of a text refuses bytes that begin with that text, whatever follows.
 pub fn text_is_not_refused()
     ensures { (t : DbText) (rest : List ℕ) (fault : FormFault) → IsDbText t →
         IsRefused IsDbText db_lines (db_text t ++ rest) fault → fault ≡ Memory }
 {}
 
-/// What refuses bytes is one: a line that is bad at one place, or another
-/// version, or a count above 4,096.
+/// States that bytes are refused for one reason only, apart from lack of memory: a line that is bad
+/// at one place, or another version, or a count above 4,096.
 pub fn refusals_are_one()
     ensures { (bytes : List ℕ) (a b : FormFault) → IsRefused IsDbText db_lines bytes a →
         IsRefused IsDbText db_lines bytes b → a ≢ Memory → b ≢ Memory → a ≡ b }

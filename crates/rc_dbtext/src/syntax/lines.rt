@@ -55,7 +55,7 @@ impl<'a> Model for Head<'a> {
 }
 
 impl<'a> Head<'a> {
-    /// Whether the service is a oneshot or a longrun.
+    /// Returns the kind of the service, a oneshot or a longrun.
     pub fn kind(&self) -> Kind
         ensures { result ≡ self.now.kind }
     {
@@ -63,7 +63,7 @@ impl<'a> Head<'a> {
     }
 }
 
-/// What follows the first line.
+/// Reads the first line, and returns what follows it.
 pub(crate) fn first_line(bytes: &[u8]) -> Result<&[u8], FormFault>
     ensures ok { IfOk result (λ rest. bytes.now ≡ spell First ++ rest.now) }
     ensures fault { IfErr result (λ fault.
@@ -77,7 +77,7 @@ pub(crate) fn first_line(bytes: &[u8]) -> Result<&[u8], FormFault>
     }
 }
 
-/// A count after its word, and what follows that line.
+/// Reads the line of `word` and a count. Returns the count and what follows that line.
 pub(crate) fn count_line<'a>(bytes: &'a [u8], word: &str) -> Result<(u32, &'a [u8]), FormFault>
     requires { IsPlain word.now }
     ensures ok { IfOk result (λ read. (read.0 ≤ 4096)
@@ -91,7 +91,7 @@ pub(crate) fn count_line<'a>(bytes: &'a [u8], word: &str) -> Result<(u32, &'a [u
     }
 }
 
-/// The first line of a service, and what follows it.
+/// Reads the first line of a service. Returns what it says, and what follows it.
 pub(crate) fn head_line(bytes: &[u8]) -> Result<(Head<'_>, &[u8]), FormFault>
     ensures ok { IfOk result (λ read. IsRead IsHead (one OfService) bytes.now read.0 read.1.now) }
     ensures fault { IfErr result (IsRefused IsHead (one OfService) bytes.now) }
@@ -103,7 +103,7 @@ pub(crate) fn head_line(bytes: &[u8]) -> Result<(Head<'_>, &[u8]), FormFault>
     }
 }
 
-/// What a service needs, and what follows that line.
+/// Reads the line of what a service needs. Returns the needs and what follows that line.
 pub(crate) fn needs_line<'a>(
     alloc: Global,
     bytes: &'a [u8],
@@ -120,7 +120,7 @@ pub(crate) fn needs_line<'a>(
     }
 }
 
-/// What a longrun feeds, and what follows that line.
+/// Reads the line of what a longrun feeds. Returns the name, if any, and what follows that line.
 pub(crate) fn producer_line(bytes: &[u8]) -> Result<(Option<NameWord<'_>>, &[u8]), FormFault>
     ensures ok { IfOk result (λ read. IsRead (λ p. IfSome p IsName)
         (one OfProducer) bytes.now read.0 read.1.now) }
@@ -133,7 +133,7 @@ pub(crate) fn producer_line(bytes: &[u8]) -> Result<(Option<NameWord<'_>>, &[u8]
     }
 }
 
-/// A bundle, and what follows its line.
+/// Reads the line of a bundle. Returns the bundle and what follows its line.
 pub(crate) fn bundle_line<'a>(
     alloc: Global,
     bytes: &'a [u8],
@@ -150,7 +150,7 @@ pub(crate) fn bundle_line<'a>(
     }
 }
 
-/// What follows the last line.
+/// Reads the last line, and returns what follows it.
 pub(crate) fn last_line(bytes: &[u8]) -> Result<&[u8], FormFault>
     ensures ok { IfOk result (λ rest. bytes.now ≡ spell Last ++ rest.now) }
     ensures fault { IfErr result (λ fault.
@@ -166,7 +166,7 @@ pub(crate) fn last_line(bytes: &[u8]) -> Result<&[u8], FormFault>
     }
 }
 
-/// The text of a oneshot for the way up, and what follows it.
+/// Reads the text of a oneshot for the way up. Returns it and what follows it.
 pub(crate) fn up_line(bytes: &[u8]) -> Result<(&str, &[u8]), FormFault>
     ensures ok { IfOk result (λ read. IsRead IsScript (one OfUp) bytes.now
         read.0.now read.1.now) }
@@ -182,7 +182,8 @@ pub(crate) fn up_line(bytes: &[u8]) -> Result<(&str, &[u8]), FormFault>
     }
 }
 
-/// The text of a oneshot for the way down, if it has one, and what follows it.
+/// Reads the text of a oneshot for the way down. Returns the text, if there is one, and what
+/// follows it.
 pub(crate) fn down_line(bytes: &[u8]) -> Result<(Option<&str>, &[u8]), FormFault>
     ensures ok { IfOk result (λ read. IsRead (λ t. IfSome t IsScript) (one OfDown) bytes.now
         (option_map (λ text. text.now) read.0) read.1.now) }
@@ -202,7 +203,8 @@ pub(crate) fn down_line(bytes: &[u8]) -> Result<(Option<&str>, &[u8]), FormFault
 }
 
 #[tactic(auto, using(crate::proofs::KindLines::same_length))]
-// The text that is as long as the word says, if it stands here, and what follows it.
+// Reads the text that stands here, if it is as long as the word says. Returns it and what follows
+// it.
 fn text_after<'a>(long: &str, bytes: &'a [u8]) -> Option<(&'a str, &'a [u8])>
     ensures { MatchOption result
         ((text rest : List ℕ) → IsScript text → long.now ≡ decimal (length text) → bytes.now
@@ -219,7 +221,7 @@ fn text_after<'a>(long: &str, bytes: &'a [u8]) -> Option<(&'a str, &'a [u8])>
     }
 }
 
-// The needs that the words of a line give.
+// Returns the needs that the words of a line give.
 fn needs_of<'a>(alloc: Global, words: Words<'a>) -> Result<Option<Vec<NameWord<'a>>>, NoMem>
     ensures { IfOk result (λ needs. MatchOption needs
         (IsOfNoWords (All IsName) OfNeeds words.entry)
@@ -231,7 +233,7 @@ fn needs_of<'a>(alloc: Global, words: Words<'a>) -> Result<Option<Vec<NameWord<'
     }
 }
 
-// The bundle that the words of a line give.
+// Returns the bundle that the words of a line give.
 fn bundle_of<'a>(alloc: Global, words: Words<'a>) -> Result<Option<BundleForm<'a>>, NoMem>
     ensures { IfOk result (λ bundle. MatchOption bundle
         (IsOfNoWords IsBundleText OfBundle words.entry)
@@ -246,7 +248,7 @@ fn bundle_of<'a>(alloc: Global, words: Words<'a>) -> Result<Option<BundleForm<'a
     }
 }
 
-// The bundle of this name and these members.
+// Creates the bundle of this name and these members.
 fn bundle_from<'a>(
     alloc: Global,
     name: &'a str,
@@ -267,7 +269,7 @@ fn bundle_from<'a>(
     }
 }
 
-// What a longrun feeds, by the words of a line.
+// Returns the longrun that a longrun feeds, if any, from the words of a line.
 fn producer_of<'a>(words: Words<'a>) -> Option<Option<NameWord<'a>>>
     ensures { MatchOption result
         (IsOfNoWords (λ p. IfSome p IsName) OfProducer words.entry)
@@ -283,7 +285,7 @@ fn producer_of<'a>(words: Words<'a>) -> Option<Option<NameWord<'a>>>
     }
 }
 
-// What the words of a service's first line say.
+// Returns the head that the words of a service's first line give.
 fn head_of<'a>(words: Words<'a>) -> Option<Head<'a>>
     ensures { MatchOption result (IsOfNoWords IsHead OfService words.entry)
         (IsOfWords IsHead OfService words.entry) }
@@ -306,7 +308,7 @@ fn head_of<'a>(words: Words<'a>) -> Option<Head<'a>>
     }
 }
 
-// What these words say of a service.
+// Creates the head of a service from the words of its first line.
 fn head_from<'a>(name: &'a str, kind: &str, flag: &str, up: &str, down: &str) -> Option<Head<'a>>
     ensures { MatchOption result
         (IsOfNoWords IsHead OfService (codes "service" ∷ name.now ∷ kind.now ∷ flag.now ∷ up.now
@@ -333,7 +335,7 @@ fn head_from<'a>(name: &'a str, kind: &str, flag: &str, up: &str, down: &str) ->
     }
 }
 
-// The kind that a word says.
+// Returns the kind that a word says.
 fn kind_of(word: &str) -> Option<Kind>
     ensures { MatchOption result ((kind : Kind) → ((kind ≡ kinds.Bundle) → ⊥) →
         word.now ≡ kind_word kind → ⊥)
@@ -348,7 +350,7 @@ fn kind_of(word: &str) -> Option<Kind>
     }
 }
 
-// Whether a word says that a service is essential.
+// Parses the word that says whether a service is essential.
 fn flag_of(word: &str) -> Option<bool>
     ensures { MatchOption result ((flag : Bool) → word.now ≡ flag_word flag → ⊥)
         (λ flag. word.now ≡ flag_word flag) }

@@ -12,7 +12,7 @@ use crate::syntax::fault::FormFault;
 /// The most bytes of a oneshot's text.
 pub(crate) const MAX_TEXT: u32 = 65_536;
 
-/// The words of the line at the beginning, and what follows it.
+/// Reads the line at the beginning. Returns its words and what follows it.
 pub(crate) fn words_of(bytes: &[u8]) -> Result<(Words<'_>, &[u8]), FormFault>
     ensures ok { IfOk result (λ read. BeginsWith bytes.now read.0 read.1.now) }
     ensures fault { IfErr result (λ fault. IsNoLine bytes.now fault) }
@@ -23,7 +23,8 @@ pub(crate) fn words_of(bytes: &[u8]) -> Result<(Words<'_>, &[u8]), FormFault>
     }
 }
 
-/// The number after this word in a line of the two at the beginning, and what follows that line.
+/// Reads a line of two words at the beginning: `word`, and a number. Returns the number and what
+/// follows that line.
 pub(crate) fn number_line<'a>(bytes: &'a [u8], word: &str) -> Result<(&'a str, &'a [u8]), FormFault>
     requires { IsPlain word.now }
     ensures ok { IfOk result (λ read. IsNumber read.0.now
@@ -36,7 +37,8 @@ pub(crate) fn number_line<'a>(bytes: &'a [u8], word: &str) -> Result<(&'a str, &
     }
 }
 
-/// A text of so many bytes with its newline, if it stands here, and what follows it.
+/// Reads a text of `long` bytes with its newline, if one stands here. Returns it and what follows
+/// it.
 pub(crate) fn text_of(bytes: &[u8], long: u32) -> Option<(&str, &[u8])>
     ensures { MatchOption result
         ((text rest : List ℕ) → IsScript text → length text ≡ long → bytes.now
@@ -53,7 +55,8 @@ pub(crate) fn text_of(bytes: &[u8], long: u32) -> Option<(&str, &[u8])>
     }
 }
 
-// So many bytes in front of a newline, and what follows it.
+// Splits off the first `long` bytes, if a newline follows them. Returns them and what follows the
+// newline.
 fn cut(bytes: &[u8], long: usize) -> Option<(&[u8], &[u8])>
     ensures { MatchOption result
         ((text rest : List ℕ) → length text ≡ long → bytes.now ≡ text ++ 10 ∷ [] ++ rest → ⊥)
@@ -65,7 +68,7 @@ fn cut(bytes: &[u8], long: usize) -> Option<(&[u8], &[u8])>
     Some((&bytes[..long], &bytes[long + 1..]))
 }
 
-// The bytes as the text of a oneshot, if they are one.
+// Returns the bytes as the text of a oneshot, if they are one.
 fn script_of(bytes: &[u8]) -> Option<&str>
     ensures { MatchOption result (IsScript bytes.now → ⊥)
         (λ text. (text.now ≡ bytes.now) × IsScript bytes.now) }

@@ -1,10 +1,10 @@
-//! Standard output, with a word for people after an answer that refuses what is asked: which name
-//! may have been meant, or what to ask instead. The answers are written as they are.
+//! Standard output, with a hint for people after an answer that refuses a request: which name may
+//! have been meant, or what to request instead. The answers are written unchanged.
 use crate::frontend::hints::{tell_hint, tell_near};
 use rc_names::NoMem;
 use std::io::{self, Stdout, Write};
 
-/// More bytes than the refusal of a name has, whose longest is of 255.
+/// More bytes than the refusal of a name has, since the longest name has 255.
 const MOST: usize = 300;
 
 /// Standard output, the database in which a name may be looked for, and the answer that is not
@@ -20,7 +20,8 @@ pub struct Answers<'a> {
 }
 
 impl<'a> Answers<'a> {
-    /// Where the database is known, what helps is told after each answer, else after all.
+    /// Creates standard output with hints. If the database is known, hints on names follow each
+    /// answer. Otherwise `tell_all` prints them after all answers.
     pub fn new(rt: &'a HostRuntime, base: Option<&'a [u8]>) -> Answers<'a> {
         Answers {
             rt,
@@ -32,14 +33,14 @@ impl<'a> Answers<'a> {
         }
     }
 
-    /// Tells what helps after all answers, of names of this database.
+    /// Prints the hints that follow all answers, on names of this database.
     pub fn tell_all(&self, database: &[u8]) {
         for name in &self.unknown {
             tell_near(self.rt, database, name.as_str());
         }
     }
 
-    /// Tells what helps after an answer, or keeps the name.
+    /// Prints the hint after an answer, or keeps the unknown name for `tell_all`.
     fn look_at_answer(&mut self) -> Result<(), NoMem> {
         if self.lacks {
             return Ok(());
@@ -90,7 +91,7 @@ impl Write for Answers<'_> {
     }
 }
 
-/// What helps after an answer that refuses what is asked, whatever it names.
+/// Returns the hint for an answer that refuses a request, if it does not depend on a name.
 fn refusal_hint(answer: &[u8]) -> Option<&'static str> {
     match std::str::from_utf8(answer).ok()? {
         "refused NothingToUndo\n" => {
@@ -104,7 +105,7 @@ fn refusal_hint(answer: &[u8]) -> Option<&'static str> {
     }
 }
 
-/// The name that an answer refuses as nobody's.
+/// Returns the name that an answer refuses as unknown.
 fn refused_name(answer: &[u8]) -> Option<&str> {
     let text = std::str::from_utf8(answer).ok()?;
     text.strip_prefix("refused Unknown ")?.strip_suffix('\n')

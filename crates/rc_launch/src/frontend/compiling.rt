@@ -14,7 +14,7 @@ use std::os::unix::fs::FileExt;
 /// What a database begins with.
 const FRONT: &[u8] = b"undorc-db ";
 
-/// Compiles source directories, and answers the status.
+/// Compiles source directories, and returns the status.
 pub fn compile(rt: &HostRuntime, request: &CompileRequest<'_>) -> u8 {
     let mut trees = Vec::new(rt.alloc());
     let opened = open_all(rt, &request.sources, &mut trees);
@@ -26,7 +26,7 @@ pub fn compile(rt: &HostRuntime, request: &CompileRequest<'_>) -> u8 {
     status
 }
 
-/// The same with the trees of those directories.
+/// Compiles the trees of source directories, and returns the status.
 fn compile_trees(
     rt: &HostRuntime,
     request: &CompileRequest<'_>,
@@ -45,13 +45,13 @@ fn compile_trees(
     status
 }
 
-/// Whether a link was read in one of the trees.
+/// Returns true if a link was read in one of the trees.
 fn have_links(trees: &[FolderTree<HostRuntime>]) -> bool {
     trees.iter().any(|tree| tree.has_links())
 }
 
-/// Puts the database into a file, which is left alone where there is none, and may be read by
-/// nobody who may not read the sources.
+/// Puts the database into a file, and returns the status. If there is no database, the file is left
+/// alone. Nobody may read the file who may not read the sources.
 fn compile_into(
     rt: &HostRuntime,
     request: &CompileRequest<'_>,
@@ -77,8 +77,8 @@ fn compile_into(
     }
 }
 
-/// Whether a database may take the place of what stands at a path: a database, an empty file, what
-/// is no plain file, or nothing.
+/// Returns true if a database may replace what stands at a path: a database, an empty file,
+/// something that is no plain file, or nothing.
 fn may_replace(rt: &HostRuntime, path: &str) -> io::Result<bool> {
     match fs::metadata(rt, path) {
         Ok(found) if found.is_file() && found.len() > 0 => begins_a_database(rt, path),
@@ -86,7 +86,7 @@ fn may_replace(rt: &HostRuntime, path: &str) -> io::Result<bool> {
     }
 }
 
-/// Whether a file begins as a database does.
+/// Returns true if a file begins as a database does.
 fn begins_a_database(rt: &HostRuntime, path: &str) -> io::Result<bool> {
     let file = File::open(rt, path)?;
     let mut front = [0; FRONT.len()];
@@ -95,7 +95,7 @@ fn begins_a_database(rt: &HostRuntime, path: &str) -> io::Result<bool> {
     Ok(count? == FRONT.len() && front.as_slice() == FRONT)
 }
 
-/// Replaces the file, which may be read by nobody who may not read the sources.
+/// Replaces the file. Nobody may read it who may not read the sources.
 fn replace_restricted(
     rt: &HostRuntime,
     request: &CompileRequest<'_>,

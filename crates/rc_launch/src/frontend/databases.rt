@@ -1,11 +1,11 @@
-//! What helps where a text is no database, or no session's, or a name is not in a database.
+//! Hints for a text that is no database or no session, and for a name that is not in a database.
 use rc_compile::command::diagnostics::{
     Hint, Said, cut_at, first_word, is_one_edit, line_at, text_of,
 };
 use rc_names::NoMem;
 use std::alloc::Global;
 
-/// A sort of text, as people are told of it.
+/// A kind of text, as hints name it.
 struct Form {
     front: &'static [u8],
     name: &'static str,
@@ -24,8 +24,8 @@ const SESSION: Form = Form {
     help: "where there is none, a session makes one",
 };
 
-/// What helps after a refusal of the database in a file, or on standard input: the refusal's word
-/// and what stands after it.
+/// Returns the hint for a refusal of the database in a file, or on standard input. The refusal is
+/// given by its word and what stands after it.
 pub fn database_hint(alloc: Global, path: &str, bytes: &[u8], word: &str, rest: &str) -> Hint {
     let what = match word {
         "Bad" => return bad_line(alloc, path, bytes, rest, &DATABASE),
@@ -39,7 +39,7 @@ pub fn database_hint(alloc: Global, path: &str, bytes: &[u8], word: &str, rest: 
     hint_of(alloc, path, what, ": undorc compile makes it anew")
 }
 
-/// What helps after a refusal of the text that a session was to go on with.
+/// Returns the hint for a refusal of the text that a session was to go on with.
 pub fn live_hint(alloc: Global, path: &str, bytes: &[u8], word: &str, rest: &str) -> Hint {
     let what = match word {
         "Bad" => return bad_line(alloc, path, bytes, rest, &SESSION),
@@ -55,7 +55,7 @@ pub fn live_hint(alloc: Global, path: &str, bytes: &[u8], word: &str, rest: &str
     hint_of(alloc, path, what, rest)
 }
 
-/// The line that is not due.
+/// Returns the hint that names the line that is not due, or the kind of text that was expected.
 fn bad_line(alloc: Global, path: &str, bytes: &[u8], offset: &str, form: &Form) -> Hint {
     let Ok(offset) = offset.parse::<usize>() else {
         return Ok(None);
@@ -77,14 +77,14 @@ fn bad_line(alloc: Global, path: &str, bytes: &[u8], offset: &str, form: &Form) 
     said.hint()
 }
 
-/// A hint of these texts in a row.
+/// Returns a hint of these texts in a row.
 fn hint_of(alloc: Global, front: &str, middle: &str, back: &str) -> Hint {
     let mut said = Said::new(alloc);
     said.add_row(front, middle, back);
     said.hint()
 }
 
-/// What is wrong with the line that begins at an offset.
+/// Returns a description of what is wrong with the line that begins at an offset.
 fn not_due(bytes: &[u8], offset: usize) -> &'static str {
     let rest = bytes.get(offset..).unwrap_or(&[]);
     if rest.is_empty() {
@@ -100,7 +100,8 @@ fn not_due(bytes: &[u8], offset: usize) -> &'static str {
     "this line has not the form that is due"
 }
 
-/// The name of a database that may have been meant, or how all of them are printed.
+/// Returns the hint for an unknown name: the name of a database that may have been meant, or the
+/// command that prints all of them.
 pub fn near_hint(alloc: Global, database: &[u8], name: &str) -> Hint {
     let mut rest = database;
     for _ in 0..database.len() {
@@ -128,7 +129,7 @@ pub fn near_hint(alloc: Global, database: &[u8], name: &str) -> Hint {
     Ok(None)
 }
 
-/// What stands after the database at the beginning of a text.
+/// Returns the bytes after the database at the beginning of a text.
 pub fn behind_end(bytes: &[u8]) -> &[u8] {
     let mut rest = bytes;
     for _ in 0..bytes.len() {
@@ -141,7 +142,8 @@ pub fn behind_end(bytes: &[u8]) -> &[u8] {
     rest
 }
 
-/// A service that is up, a name a line, and one that it needs and that is not among them.
+/// Returns a hint with a service that is up, and a dependency of it that is not. `up` lists what is
+/// up, one name per line.
 pub fn lacking_hint<'a>(alloc: Global, database: &'a [u8], up: &'a [u8]) -> Hint {
     let mut listed = Vec::new(alloc);
     let sorted = add_sorted(text_of(up), &mut listed);
@@ -159,7 +161,7 @@ pub fn lacking_hint<'a>(alloc: Global, database: &'a [u8], up: &'a [u8]) -> Hint
     }
 }
 
-/// Adds the lines of a text, in byte order.
+/// Adds the lines of a text to a list, and sorts it in byte order.
 fn add_sorted<'a>(text: &'a str, lines: &mut Vec<&'a str>) -> Result<(), NoMem> {
     for line in text.split('\n') {
         lines.push(line)?;
@@ -167,8 +169,8 @@ fn add_sorted<'a>(text: &'a str, lines: &mut Vec<&'a str>) -> Result<(), NoMem> 
     lines.sort()
 }
 
-/// The first service of a database that is listed, and its first need
-/// that is not. The list ascends.
+/// Returns the first listed service of a database that has a dependency which is not listed, with
+/// the first such dependency. The list ascends.
 fn lacking_of<'a>(database: &'a [u8], listed: &[&'a str]) -> Option<(&'a str, &'a str)> {
     let mut rest = database;
     for _ in 0..database.len() {
@@ -191,7 +193,7 @@ fn lacking_of<'a>(database: &'a [u8], listed: &[&'a str]) -> Option<(&'a str, &'
     None
 }
 
-/// The first of these words that is not listed. The list ascends.
+/// Returns the first of these words that is not listed. The list ascends.
 fn first_missing<'a>(listed: &[&'a str], words: &'a str) -> Option<&'a str> {
     for word in words.split(' ') {
         if listed.binary_search(&word).is_err() {
@@ -201,7 +203,7 @@ fn first_missing<'a>(listed: &[&'a str], words: &'a str) -> Option<&'a str> {
     None
 }
 
-/// The line in front, and what stands after it and after the text that it announces.
+/// Returns the first line, and the bytes after it and after the text that it announces.
 fn next_line(bytes: &[u8]) -> (&str, &[u8]) {
     let (line, rest) = cut_at(bytes, b'\n');
     let line = std::str::from_utf8(line).unwrap_or("");

@@ -14,8 +14,8 @@ const READING: u32 = 0o444;
 const READ: [&str; 5] = ["contents", "dependencies", "down", "type", "up"];
 
 /// Makes the file at a path, or takes rights from the one that is there, so that nobody may read it
-/// who may not read each of the sources. Where all may be read by all, it is left alone. Returns
-/// whether it was made.
+/// who may not read each of the sources. If everyone may read all sources, the file is left alone.
+/// Returns true if the file was made.
 pub fn restrict(rt: &HostRuntime, sources: &[String], path: &str) -> io::Result<bool> {
     let mut rights = READING;
     for source in sources {
@@ -39,7 +39,7 @@ pub fn restrict(rt: &HostRuntime, sources: &[String], path: &str) -> io::Result<
     }
 }
 
-/// Makes an empty file that may be read by these, and written by its owner.
+/// Makes an empty file that its owner may write, and that has these rights to read.
 fn make(rt: &HostRuntime, path: &str, rights: u32) -> io::Result<()> {
     let mut options = File::options();
     options.write(true).create_new(true).mode(0o200 | rights);
@@ -47,7 +47,7 @@ fn make(rt: &HostRuntime, path: &str, rights: u32) -> io::Result<()> {
     Ok(())
 }
 
-/// Who may read each entry of a source.
+/// Returns the rights to read that all entries of a source give.
 fn readable_in(rt: &HostRuntime, source: &str) -> io::Result<u32> {
     let mut rights = READING;
     for entry in fs::read_dir(rt, source)? {
@@ -56,7 +56,7 @@ fn readable_in(rt: &HostRuntime, source: &str) -> io::Result<u32> {
     Ok(rights)
 }
 
-/// Who may read each file of an entry that comes into a database.
+/// Returns the rights to read that all files of an entry give, of those that come into a database.
 fn readable_by(rt: &HostRuntime, entry: io::Result<DirEntry>) -> io::Result<u32> {
     let entry = entry?;
     let mut rights = READING;
@@ -66,7 +66,7 @@ fn readable_by(rt: &HostRuntime, entry: io::Result<DirEntry>) -> io::Result<u32>
     Ok(rights)
 }
 
-/// Who may read a file of an entry. What is no file, all may.
+/// Returns the rights that a file of an entry gives. If it is no plain file, everyone may read it.
 fn rights_at(rt: &HostRuntime, entry: &str, file: &str) -> Result<u32, NoMem> {
     let path = format!(in rt.alloc(); "{entry}/{file}")?;
     let found = fs::metadata(rt, path.as_str());
@@ -77,8 +77,8 @@ fn rights_at(rt: &HostRuntime, entry: &str, file: &str) -> Result<u32, NoMem> {
     }
 }
 
-/// Warns of entries and of their files that are links to somewhere outside of their sources: who
-/// may write there says what runs.
+/// Warns of entries and of their files that are links to somewhere outside of their sources. Users
+/// who may write there decide what runs.
 pub fn warn_of_links(rt: &HostRuntime, sources: &[String]) -> io::Result<()> {
     for source in sources {
         let source = source.as_str();
@@ -138,7 +138,7 @@ fn warn_outside(rt: &HostRuntime, root: &str, path: &str, target: &str) {
     }
 }
 
-/// Whether a path is that of something in a directory.
+/// Returns true if a path leads to something in a directory.
 fn is_within(path: &str, root: &str) -> bool {
     match path.strip_prefix(root) {
         Some(rest) => rest.starts_with('/') || root.ends_with('/'),

@@ -1,4 +1,4 @@
-//! What was told of a fault.
+//! A fault writer that keeps what it wrote.
 
 use rc_compile::command::diagnostics::text_of;
 use rc_names::NoMem;
@@ -15,7 +15,7 @@ pub struct Told<W> {
 }
 
 impl<W> Told<W> {
-    /// Nothing is told yet.
+    /// Creates a writer that has reported nothing yet.
     pub fn new(alloc: Global, inner: W) -> Told<W> {
         Told {
             inner,
@@ -24,7 +24,8 @@ impl<W> Told<W> {
         }
     }
 
-    /// The first word of the fault that was told, and what stands after it in its line, if one was.
+    /// Returns the first word of the fault that was reported, and the rest of its line, if there is
+    /// one. Fails if there was no memory for all of it.
     pub fn fault(&self) -> Result<Option<(&str, &str)>, NoMem> {
         if self.is_short {
             return Err(AllocError);
@@ -33,7 +34,7 @@ impl<W> Told<W> {
     }
 }
 
-/// The first word of a fault's line, and what stands after it.
+/// Returns the first word of a fault's line, and the rest of that line.
 fn fault_in(bytes: &[u8]) -> Option<(&str, &str)> {
     let Some(line) = text_of(bytes).strip_prefix("undorc: ") else {
         return None;
@@ -44,7 +45,7 @@ fn fault_in(bytes: &[u8]) -> Option<(&str, &str)> {
     }
 }
 
-/// What stands before the first space, and what after.
+/// Returns the text before the first space, and the text after it.
 fn word_and_rest(line: &str) -> (&str, &str) {
     match line.split_once(' ') {
         Some(words) => words,

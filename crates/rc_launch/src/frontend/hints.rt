@@ -21,12 +21,13 @@ use std::io::{self, ErrorKind, Stderr};
 /// A fault writer that keeps what was told.
 pub type ToldErrors = Told<Escaped<Stderr>>;
 
-/// A fault writer that has told nothing yet.
+/// Creates a fault writer that has reported nothing yet.
 pub fn told_errors(rt: &HostRuntime) -> ToldErrors {
     Told::new(rt.alloc(), Escaped::of_lines(rt.stderr()))
 }
 
-/// What helps after what `compile` told, and what was not looked at.
+/// Prints what helps after a run of `compile`, and, if requested, notes about the sources, such as
+/// the files that were not looked at.
 pub fn behind_compile(rt: &HostRuntime, request: &CompileRequest<'_>, told: &ToldErrors) {
     let sources = Sources::new(rt, rt.alloc(), &request.sources);
     match told.fault() {
@@ -57,7 +58,7 @@ impl<'a> Seen<'a> {
         Seen { file, base, input }
     }
 
-    /// Whether a database stands there.
+    /// Returns true if a database stands there. Fails if memory runs out.
     pub fn is_good(&self, rt: &HostRuntime) -> Result<bool, NoMem> {
         let Some(database) = self.base.or(self.input) else {
             return Err(AllocError);
@@ -70,7 +71,7 @@ impl<'a> Seen<'a> {
     }
 }
 
-/// The status of `db check` on a database.
+/// Returns the status of `db check` on a database.
 fn checked(rt: &HostRuntime, base: Option<&[u8]>, input: &[u8]) -> u8 {
     run_query(
         rt.alloc(),
@@ -82,7 +83,7 @@ fn checked(rt: &HostRuntime, base: Option<&[u8]>, input: &[u8]) -> u8 {
     )
 }
 
-/// What helps after what was told of the database, or of what is asked of it.
+/// Prints what helps after a fault of the database, or of a request on it.
 fn behind_database(rt: &HostRuntime, seen: &Seen<'_>, told: &ToldErrors) {
     let Ok(Some((word, rest))) = told.fault() else {
         return;
@@ -95,7 +96,7 @@ fn behind_database(rt: &HostRuntime, seen: &Seen<'_>, told: &ToldErrors) {
     }
 }
 
-/// What helps after a look at the database, and at what a command reads beside it.
+/// Looks at the database, and at what a command reads besides, and returns the hint.
 fn hint_on(rt: &HostRuntime, seen: &Seen<'_>, word: &str, rest: &str) -> Hint {
     let (database, others) = match (seen.base, seen.input) {
         (Some(base), others) => (base, others),
@@ -112,8 +113,8 @@ fn hint_on(rt: &HostRuntime, seen: &Seen<'_>, word: &str, rest: &str) -> Hint {
     }
 }
 
-/// What helps after what a session told: of the file of `-l`, with what was read there and why it
-/// could not be written, or of its database.
+/// Prints what helps after the fault of a session: about the file of `-l`, with what was read there
+/// and why it could not be written, or about its database.
 pub fn behind_session(
     rt: &HostRuntime,
     live: Option<&str>,
@@ -151,14 +152,14 @@ impl Display for Reason<'_> {
     }
 }
 
-/// What helps where the file of `-l` could not be written.
+/// Returns the hint for a file of `-l` that could not be written.
 fn unwritten_hint(rt: &HostRuntime, path: &str, error: &io::Error) -> Hint {
     let (path, what) = (Shown(&path), Reason(error));
     Ok(Some(format!(in rt.alloc(); "{path} can't be replaced by {path}.new: {what}")?))
 }
 
-/// What helps where the file of `-l` can't be read, or its text is refused, which is looked at
-/// after the database.
+/// Returns the hint for a file of `-l` that can't be read, or whose text is refused. That text is
+/// looked at after the database, so a bad database gives no hint here.
 fn behind_live(
     rt: &HostRuntime,
     path: &str,
@@ -181,12 +182,12 @@ fn behind_live(
     }
 }
 
-/// Tells which name of a database may have been meant by one that is nobody's.
+/// Prints the name of a database that may have been meant by an unknown name.
 pub fn tell_near(rt: &HostRuntime, database: &[u8], name: &str) {
     tell_found(rt, HINT, near_hint(rt.alloc(), database, name));
 }
 
-/// What helps without a second look.
+/// Returns the hint for a fault that needs no second look.
 fn plain_hint(word: &str, rest: &str, is_file: bool) -> Option<&'static str> {
     match word {
         "Bad" if rest == "0" && !is_file => {
@@ -199,7 +200,7 @@ fn plain_hint(word: &str, rest: &str, is_file: bool) -> Option<&'static str> {
     }
 }
 
-/// Tells why a file was not read or written, and answers the status.
+/// Reports why a file was not read or written, and returns the status.
 pub fn tell_file(rt: &HostRuntime, path: &str, error: &io::Error) -> u8 {
     if error.kind() == ErrorKind::OutOfMemory {
         return tell_failure(rt, "Memory");
@@ -210,7 +211,7 @@ pub fn tell_file(rt: &HostRuntime, path: &str, error: &io::Error) -> u8 {
     status
 }
 
-/// Reports that a file is no database, which is not replaced by one, and returns the status.
+/// Reports that a file is no database, and is not replaced by one, and returns the status.
 pub fn tell_not_database(rt: &HostRuntime, path: &str) -> u8 {
     error!(Messages(rt); target: MESSAGE, "NotDatabase {path}");
     info!(Messages(rt); target: HINT,
@@ -236,8 +237,8 @@ pub fn tell_failure(rt: &HostRuntime, word: &str) -> u8 {
     FAILED
 }
 
-/// Reports what helps, if anything does, as records of this target, one for each line. Returns
-/// whether nothing more is to be looked for: something was reported, or memory ran out.
+/// Reports a hint, if there is one, as records of this target, one for each line. Returns true if
+/// nothing more is to be looked for: something was reported, or memory ran out.
 fn tell_found(rt: &HostRuntime, target: &str, hint: Hint) -> bool {
     match hint {
         Ok(Some(text)) => {

@@ -1,4 +1,4 @@
-//! What the conversions of an update are refused for, and why an update moves a service.
+//! Reports why the conversions of an update are refused, and why an update moves a service.
 use crate::frontend::hints::tell_failure;
 use log::{error, info};
 use rc_args::RenameFault;
@@ -31,8 +31,8 @@ pub fn tell_renames(rt: &HostRuntime, path: Option<&str>, fault: &RenameFault<'_
     }
 }
 
-/// Reports for each service that is live in the session of this text, and that an update between
-/// the databases moves, why it does.
+/// Reports why an update between the databases moves services: for each service that it moves and
+/// that is live in the session of this text.
 pub fn tell_moves(rt: &HostRuntime, old: &[u8], new: &[u8], list: &[Conversion<'_>], text: &[u8]) {
     let Ok((from, _none)) = database_of(rt.alloc(), Some(old), &[]) else {
         return;
@@ -44,7 +44,7 @@ pub fn tell_moves(rt: &HostRuntime, old: &[u8], new: &[u8], list: &[Conversion<'
     drop(from);
 }
 
-/// The same of two databases.
+/// Reports why an update from one database to another moves services of a session.
 fn tell_between(rt: &HostRuntime, old: &Db, new: &Db, list: &[Conversion<'_>], text: &[u8]) {
     let Ok((line, _states)) = read_live(rt.alloc(), text, old) else {
         return;
@@ -53,7 +53,7 @@ fn tell_between(rt: &HostRuntime, old: &Db, new: &Db, list: &[Conversion<'_>], t
     drop(line);
 }
 
-/// The same where these services are live.
+/// Reports why an update moves services: for each of the given live services that it moves.
 fn tell_live(rt: &HostRuntime, old: &Db, new: &Db, list: &[Conversion<'_>], live: &Set) {
     let count = old.names().len();
     if live.bound() != count {
@@ -91,7 +91,7 @@ fn tell_move(rt: &HostRuntime, old: &Db, id: u16, new: &Db, list: &[Conversion<'
     }
 }
 
-/// A difference in words.
+/// Returns the words for a difference.
 fn reason_of(difference: Difference) -> &'static str {
     match difference {
         Difference::Gone => "it is gone",
@@ -102,7 +102,7 @@ fn reason_of(difference: Difference) -> &'static str {
     }
 }
 
-/// The first service that one needs and that does not stay.
+/// Returns the name of a service's first dependency that does not stay.
 fn moving_need<'a>(old: &'a Db, id: u16, stays: &Set) -> Option<&'a str> {
     if id >= old.graph().len() {
         return None;

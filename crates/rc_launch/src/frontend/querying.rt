@@ -12,7 +12,7 @@ use std::io;
 
 /// Runs a query on the file of `-b`, and returns its status: 0, 1 for a refusal, or 111 for a
 /// failure. A picture shows the session in the file of `-l`; if that is missing, no service is up.
-/// If that has a database of its own, the query is on it.
+/// If that file has a database of its own, the query runs on that one.
 pub fn query(rt: &HostRuntime, query: Query<'_, '_>, file: Option<&str>) -> u8 {
     match LiveText::read(rt, live_of(query)) {
         Ok(live) => {
@@ -73,7 +73,7 @@ fn query_on(
     status
 }
 
-/// The query with the text of the session that it shows.
+/// Returns the query with the text of the session that it shows.
 fn showing<'a, 'r>(query: Query<'a, 'r>, shown: Option<&'a [u8]>) -> Query<'a, 'r> {
     match query {
         Query::Db(request, _) => Query::Db(request, shown),
@@ -81,7 +81,7 @@ fn showing<'a, 'r>(query: Query<'a, 'r>, shown: Option<&'a [u8]>) -> Query<'a, '
     }
 }
 
-/// The file of `-l`, if the query shows a session.
+/// Returns the file of `-l`, if the query shows a session.
 fn live_of<'r>(query: Query<'_, 'r>) -> Option<&'r str> {
     match query {
         Query::Db(request, _) => request.live,
@@ -89,7 +89,8 @@ fn live_of<'r>(query: Query<'_, 'r>) -> Option<&'r str> {
     }
 }
 
-/// What the query reads from standard input, in words. `is_file`: `-b` names the database.
+/// Returns the name of what the query reads from standard input. If `is_file`, `-b` names the
+/// database.
 fn input_of(query: Query<'_, '_>, is_file: bool) -> &'static str {
     match (query, is_file) {
         (Query::Db(..), _) => "the database",

@@ -1,11 +1,11 @@
-//! Standard input, where it may be a person at a terminal: what is read whole says so before it is
-//! read, and who asks a session for help is told its lines. What is read is handed through as it
-//! is.
+//! Standard input, where a person may type at a terminal. Before an input is read whole, a line
+//! says so. A person who asks a session for help gets its lines. What is read is handed through
+//! unchanged.
 use log::info;
 use rc_streams::messages::{MESSAGE, Messages};
 use std::io::{self, IsTerminal, Read, Stdin};
 
-/// What a session's lines are.
+/// The help on the lines of a session.
 const LINES: &str =
     "end the session with ^D; its lines are change, undo, redo, live, journal and more";
 
@@ -24,7 +24,8 @@ pub struct Typed<'a> {
 }
 
 impl<'a> Typed<'a> {
-    /// Standard input, of which this is read whole; nothing where it is read line by line.
+    /// Creates standard input. `reads` names what is read whole from it, and is `None` if it is
+    /// read line by line.
     pub fn new(rt: &'a HostRuntime, reads: Option<&'static str>) -> Typed<'a> {
         let inner = rt.stdin();
         let is_terminal = inner.is_terminal();
@@ -40,7 +41,7 @@ impl<'a> Typed<'a> {
         }
     }
 
-    /// What was read, where it is read whole, if there was memory for it.
+    /// Returns the bytes of an input that is read whole, if there was memory for them.
     pub fn kept(&self) -> Option<&[u8]> {
         if self.is_short {
             return None;
@@ -48,7 +49,7 @@ impl<'a> Typed<'a> {
         Some(&self.kept)
     }
 
-    /// Says what is read from a terminal.
+    /// Prints what is read, if it is read from a terminal.
     fn announce(&self, what: &str) {
         if self.is_terminal {
             info!(
@@ -77,7 +78,7 @@ impl Read for Typed<'_> {
     }
 }
 
-/// Whether a line asks what the lines are, or how to leave.
+/// Returns true if a line asks for the lines of a session, or how to leave.
 fn asks_for_help(line: &[u8]) -> bool {
     matches!(line, b"help\n" | b"?\n" | b"quit\n" | b"exit\n")
 }

@@ -37,8 +37,8 @@ pub fn crashes_leave_one_line()
     cut_runs_are_settled();
 }
 
-/// What workers log of a run of a command begins a run of it, whatever the order of the log. Behind
-/// the logged events stand those that were made and not logged yet.
+/// The events that workers log of a run of a command begin a run of it, whatever the order of the
+/// log. The events that were made and not logged yet follow the logged ones.
 pub fn logged_events_begin_a_run()
     ensures { (d : Database) (line : Line) (command : Command) (start : ℕ) (plan : PlanSets)
         (deadline : Option ℕ) (trace : List Event) (steps : List (List Event))
@@ -51,14 +51,14 @@ pub fn logged_events_begin_a_run()
     stops_need_no_line();
 }
 
-/// Of an empty log nothing is entered, whatever the file holds.
+/// Nothing is entered from an empty log, whatever the file holds.
 pub fn empty_logs_are_at_rest()
     ensures { (d : Database) (file : List ℕ) → IsAtRest d (record { file = file; log = [] }) }
 {
     scripts_give_one_list();
 }
 
-/// Where all events of a run were logged, the line in which they are entered is the new line of the
+/// If all events of a run were logged, the line in which they are entered is the new line of the
 /// command. So a crash between its last event and the new text loses nothing.
 pub fn complete_logs_give_the_new_line()
     ensures { (d : Database) (line new end : Line) (command : Command) (report : Reported)
@@ -70,7 +70,7 @@ pub fn complete_logs_give_the_new_line()
     stops_need_no_line();
 }
 
-/// The premises of `crashes_leave_one_line` can hold together, of a crash after an event was
+/// The premises of `crashes_leave_one_line` can hold together, for a crash after an event was
 /// logged.
 pub fn crashes_are_possible()
     ensures { (d : Database) × (line : Line) × (new : Line) × (l : Logged) × (f : Files)
@@ -80,7 +80,7 @@ pub fn crashes_are_possible()
     scripts_give_one_list();
 }
 
-/// A command that starts no program logs nothing. After a crash of it at any point the text in the
+/// A command that starts no program logs nothing. After a crash of it at any point, the text in the
 /// end is the old one or the new one.
 pub fn unlogged_commands_leave_one_text()
     ensures { (d : Database) (old new text : List ℕ) (g : Files) →

@@ -11,10 +11,10 @@ use rc_db::Db;
 use std::alloc::Global;
 use thiserror::Error;
 
-/// Why the two files were not recovered. Where the log does not fit it is left as it is.
+/// Why the two files were not recovered. If the log does not fit, it is left as it is.
 #[derive(Clone, Copy, PartialEq, Eq, Debug, Error)]
 pub enum FilesFault {
-    /// The log is none of a run of this database from where the session stands.
+    /// The log is not that of a run of this database from where the session stands.
     #[error("the run log does not fit the session or the database")]
     Log,
     #[error("out of memory")]
@@ -37,9 +37,9 @@ impl From<FileFault> for FilesFault {
     }
 }
 
-/// Enters what a command that was cut short has moved, and empties its log. The result is the
-/// report, or `None` where there was nothing to enter. A recovery that fails or is cut short is
-/// made again by the next one.
+/// Enters what a command that was cut short has moved, and empties its log. Returns the report, or
+/// `None` if there was nothing to enter. If a recovery fails or is cut short, the next one makes it
+/// again.
 pub fn recover_files<F: TwoFiles>(
     alloc: Global,
     db: Db,
@@ -68,7 +68,8 @@ pub fn recover_files<F: TwoFiles>(
     }
 }
 
-/// Puts a new text in the place of the one before, where there is one, and empties the log.
+/// Replaces the file with a new text, if there is one, and empties the log. Returns the report, if
+/// there is one.
 fn put_made<F: TwoFiles>(
     files: &mut F,
     made: Option<Recovered>,
@@ -95,7 +96,8 @@ fn put_made<F: TwoFiles>(
     }
 }
 
-/// What is entered of the bytes of the two files.
+/// Returns the new text and the report that the bytes of the two files lead to, or `None` if there
+/// is nothing to enter.
 fn entry_of(alloc: Global, db: Db, file: &[u8], log: &[u8]) -> Result<Option<Recovered>, FilesFault>
     ensures entered { IfOk result (λ made. IfSome made (λ one.
         IsEntered db file.now log.now one.text.items one.report.items)) }
@@ -109,7 +111,7 @@ fn entry_of(alloc: Global, db: Db, file: &[u8], log: &[u8]) -> Result<Option<Rec
     }
 }
 
-/// Why nothing is entered.
+/// Returns the fault of the two files for a fault of their texts.
 fn fault_of(fault: RecoverFault) -> FilesFault
     ensures log { result ≡ FilesFault.Log → fault ≡ RecoverFault.Log }
     ensures io { result ≢ FilesFault.Io }
@@ -120,7 +122,7 @@ fn fault_of(fault: RecoverFault) -> FilesFault
     }
 }
 
-/// Puts a text with an entry in the place of the one before, and returns the report.
+/// Replaces the file with the recovered text, empties the log, and returns the report.
 fn put_entry<F: TwoFiles>(files: &mut F, made: Recovered) -> Result<Option<Vec<u8>>, FilesFault>
     ensures done { IfOk result (λ report. (report ≡ Some made.report) × (F.holds files.new
         ≡ record { file = made.text.items; log = [] })) }

@@ -1,4 +1,4 @@
-//! Commands by their words: what these ask for, and what `plan`, `db` and `replay` come to.
+//! Commands by their arguments: how these are parsed, and the results of `plan`, `db` and `replay`.
 
 use crate::commands::{argv_of, run};
 use crate::growths::devices::{Due, ended};
@@ -18,7 +18,7 @@ use std::alloc::{AllocError, AllocGlobal, Global};
 use std::io::Print;
 use std::test::Fail;
 
-/// The words name all that they want.
+/// No defaults: the arguments name all that they need.
 const DEFAULTS: Defaults<'static> = Defaults {
     base: None,
     live: None,
@@ -41,7 +41,7 @@ pub(crate) struct Command {
     pub(crate) said: &'static str,
 }
 
-/// Runs a command, and shows what that came to.
+/// Runs a command, and prints the result.
 pub(crate) fn show_command(
     rt: &(impl Print + AllocGlobal),
     what: &str,
@@ -70,7 +70,7 @@ pub(crate) fn show_command(
     Ok(show_same(rt, true)?)
 }
 
-/// Reads the words of a command, and shows what that came to.
+/// Parses the arguments of a command, and prints the result.
 pub(crate) fn show_asked(
     rt: &(impl Print + AllocGlobal),
     what: &str,
@@ -83,7 +83,7 @@ pub(crate) fn show_asked(
     Ok(show_same(rt, true)?)
 }
 
-/// Whether the words ask for what they say.
+/// Returns true if the arguments are parsed as the command that they name.
 fn is_asked(rt: &(impl Print + AllocGlobal), words: &[String], line: &str) -> Result<bool, NoMem> {
     match invocation_of(rt.alloc(), words, DEFAULTS) {
         Ok(asked) => {
@@ -100,7 +100,7 @@ fn is_asked(rt: &(impl Print + AllocGlobal), words: &[String], line: &str) -> Re
     }
 }
 
-/// The word of a command.
+/// Returns the word of a command.
 fn word_of(asked: &Invocation<'_>) -> &'static str {
     match asked {
         Invocation::Compile(_) => "compile",
@@ -118,7 +118,7 @@ fn word_of(asked: &Invocation<'_>) -> &'static str {
     }
 }
 
-/// Whether the programs of a session are the usual shell, and a controller of two words.
+/// Returns true if the programs of a session are the usual shell, and a controller of two words.
 fn are_programs(rt: &(impl Print + AllocGlobal), asked: &Invocation<'_>) -> Result<bool, NoMem> {
     let Invocation::Session(SessionCommand::Lines(request), _) = asked else {
         return Ok(true);
@@ -132,7 +132,7 @@ fn are_programs(rt: &(impl Print + AllocGlobal), asked: &Invocation<'_>) -> Resu
     Ok(are_words(&runner, &["/bin/sh", "-c"]) && are_words(&controller, &["s6-svc", "x"]))
 }
 
-/// Whether these are the words.
+/// Returns true if the words are those that are due.
 pub(crate) fn are_words(words: &[String], due: &[&str]) -> bool {
     for (word, text) in words.iter().zip(due) {
         if word.as_str() != *text {
@@ -142,7 +142,8 @@ pub(crate) fn are_words(words: &[String], due: &[&str]) -> bool {
     words.len() == due.len()
 }
 
-/// Whether a log is that of an update that restarts a service: its first step lowers that.
+/// Returns true if a log is that of an update that restarts a service: its first step lowers the
+/// service.
 pub(crate) fn begins(rt: &(impl Print + AllocGlobal), db: &Db, live: &[u8]) -> Result<bool, NoMem> {
     let base = write_db(rt.alloc(), db)?;
     let mut log = Vec::from_slice(rt.alloc(), live)?;
@@ -156,7 +157,7 @@ pub(crate) fn begins(rt: &(impl Print + AllocGlobal), db: &Db, live: &[u8]) -> R
     begins_update(rt.alloc(), &base, &base, &restarts, live, &log)
 }
 
-/// Whether a list of transitions that fail has the two that it says.
+/// Returns true if a list of transitions that fail has the two that its text names.
 pub(crate) fn are_listed(alloc: Global) -> Result<bool, NoMem> {
     match transitions_of(alloc, b"up:net,down:log") {
         Ok(listed) => match listed.as_slice() {
@@ -172,7 +173,8 @@ pub(crate) fn are_listed(alloc: Global) -> Result<bool, NoMem> {
     }
 }
 
-/// Whether a text says that one service goes on under another name, and that one is restarted.
+/// Returns true if a text says that one service continues under another name, and that one is
+/// restarted.
 pub(crate) fn are_renames(alloc: Global) -> Result<bool, NoMem> {
     match renames_in(alloc, &[], b"log -> logger\nnet restart\n") {
         Ok(said) => match said.as_slice() {

@@ -25,7 +25,8 @@ use std::io::Print;
 /// The only service of a run comes up.
 const ROOT_UP: [Event; 2] = [Event::Take(1, ROOT), Event::Done(1, ROOT, Outcome::Ok)];
 
-/// Begins the run of a step, and gives it up.
+/// Begins the run of a step, and abandons it. If `spoils` is set, spoils the session instead, and
+/// checks that it refuses the step then.
 pub(crate) fn abandoned(
     rt: &(impl Print + AllocGlobal),
     session: &mut Session,
@@ -61,7 +62,7 @@ fn begun_by_name(alloc: Global, session: &mut Session, step: &Step) -> Result<Be
     }
 }
 
-/// Whether a poisoned session refuses a plan and a step.
+/// Checks that a poisoned session refuses a plan and a step.
 fn refused(alloc: Global, session: &mut Session, step: &Step) -> Result<(), Refusal>
     requires { session.old.begun ≡ false }
     ensures { session.new.begun ≡ false }
@@ -75,14 +76,14 @@ fn refused(alloc: Global, session: &mut Session, step: &Step) -> Result<(), Refu
     }
 }
 
-/// Whether a step is a change, an undo or a redo.
+/// Returns true if a step is a change, an undo or a redo.
 fn has_run(step: &Step) -> bool
     ensures { result ≡ true → HasRun (command_of step.now) }
 {
     matches!(step, Step::Change(..) | Step::Undo(..) | Step::Redo(..))
 }
 
-/// Enters a step that was cut short after its events.
+/// Enters a step that was cut short after its events, and checks the report.
 pub(crate) fn recovered(alloc: Global, session: &mut Session, step: &Step) -> Result<(), Refusal>
     requires { session.old.begun ≡ false }
     ensures { session.new.begun ≡ false }
@@ -100,8 +101,8 @@ pub(crate) fn recovered(alloc: Global, session: &mut Session, step: &Step) -> Re
     }
 }
 
-/// Whether `root` was raised where nothing was live, the others were not tried, and the run was
-/// stopped.
+/// Returns true if `root` was raised where nothing was live, the others were not tried, and the run
+/// was stopped.
 fn is_cut(report: &Report) -> bool {
     report.opening.is_empty()
         && report.raised.as_slice() == [ROOT].as_slice()
@@ -114,7 +115,7 @@ fn is_cut(report: &Report) -> bool {
         && report.trace.len() == 3
 }
 
-/// Completes the run of a step. Whether that moves all services.
+/// Completes the run of a step, and checks that it moves all services.
 pub(crate) fn all_moved(
     rt: &(impl Print + AllocGlobal),
     session: &mut Session,
@@ -133,7 +134,7 @@ pub(crate) fn all_moved(
     }
 }
 
-/// Whether a report is that of a step of which all services move, in whatever order.
+/// Returns true if a report is that of a step that moves all services, in whatever order.
 fn moves_all(step: &Step, report: &Report) -> bool {
     let (opening, lowered, raised): (&[u16], &[u16], &[u16]) = match step {
         Step::Undo(..) => (&ALL, &ALL, &[]),
@@ -142,7 +143,8 @@ fn moves_all(step: &Step, report: &Report) -> bool {
     report.trace.len() == 10 && is_report(report, opening, lowered, raised, &report.trace)
 }
 
-/// Begins the run of a step, runs it, and completes it, and names each further call or none.
+/// Begins the run of a step, runs it, and completes it. Prints the name of each further call if
+/// `names_calls` is set.
 pub fn completed(
     rt: &(impl Print + AllocGlobal),
     session: &mut Session,
@@ -176,7 +178,7 @@ pub fn completed(
     }
 }
 
-/// The end of a run of a plan by one worker.
+/// Runs a plan by one worker, and returns the end of the run.
 fn ended(
     rt: &(impl Print + AllocGlobal),
     graph: &Graph,
@@ -206,7 +208,7 @@ fn ended(
     Err(AllocError)
 }
 
-/// Whether a run is that of a plan, and nothing has happened yet.
+/// Returns true if a run is that of a plan, and nothing has happened yet.
 fn is_new(run: &Run, graph: &Graph, plan: &Plan, deadline: Option<u64>) -> bool {
     run.is_of(graph, plan, deadline)
         && run.planned() == run.standings().len()
@@ -214,7 +216,7 @@ fn is_new(run: &Run, graph: &Graph, plan: &Plan, deadline: Option<u64>) -> bool 
         && !run.settled()
 }
 
-/// A run that is stopped after its only service, and whether its end says so.
+/// Opens a run of one service, stops it after that service, and returns true if its end says so.
 pub(crate) fn is_stopped(rt: &(impl Print + AllocGlobal), graph: &Graph) -> Result<bool, NoMem> {
     let run = run_between(rt.alloc(), graph, &[], &[ROOT], Some(7))?;
     go_on_to(
@@ -227,7 +229,7 @@ pub(crate) fn is_stopped(rt: &(impl Print + AllocGlobal), graph: &Graph) -> Resu
     }
 }
 
-/// Whether a run is stopped after its only service, and its end says so.
+/// Brings the only service of a run up, stops the run, and returns true if its end says so.
 fn ends_stopped(mut run: Run) -> bool {
     if !is_stopped_once_up(&mut run) {
         drop(run);
@@ -239,14 +241,14 @@ fn ends_stopped(mut run: Run) -> bool {
     is_told
 }
 
-/// Brings the only service up and stops the run. Whether nothing is left to do then.
+/// Brings the only service up and stops the run. Returns true if nothing is left to do then.
 fn is_stopped_once_up(run: &mut Run) -> bool
     ensures { result ≡ true → IsSettled run.new.course run.new.events }
 {
     is_down(run, ROOT) && make(run, &ROOT_UP).is_ok() && run.stop(1, 7).is_ok() && run.settled()
 }
 
-/// Whether a service is down.
+/// Returns true if a service is down.
 fn is_down(run: &Run, service: u16) -> bool {
     (service as usize) < run.standings().len() && run.standing(service) == Standing::Down
 }

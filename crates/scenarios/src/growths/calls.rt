@@ -24,7 +24,8 @@ use std::sync::Wait;
 use std::thread::Threads;
 use std::time::Clock;
 
-/// Calls a session that has this text. A wrong answer is reported as strange.
+/// Makes a call on a session that has the given text. Reports a wrong answer as strange, or as the
+/// refusal `WRONG`.
 pub(crate) fn made<R: Print + AllocGlobal + Threads + Wait + Clock + Sync>(
     rt: &R,
     host: &HostRuntime,
@@ -56,7 +57,7 @@ pub(crate) fn made<R: Print + AllocGlobal + Threads + Wait + Clock + Sync>(
     }
 }
 
-/// Whether a call that alters nothing answers as it must.
+/// Returns true if a call that alters nothing answers as it must.
 fn is_right(
     rt: &(impl Print + AllocGlobal),
     session: &Session,
@@ -75,7 +76,7 @@ fn is_right(
     }
 }
 
-/// Whether values that a call makes of its own are right.
+/// Returns true if values that a call makes of its own are right.
 fn is_own(rt: &HostRuntime, session: &Session, how: How) -> Result<bool, NoMem> {
     match how {
         How::Make(made) => is_made(rt, session.db(), made),
@@ -85,10 +86,10 @@ fn is_own(rt: &HostRuntime, session: &Session, how: How) -> Result<bool, NoMem> 
     }
 }
 
-/// What stands for a wrong answer: no call here is refused for it.
+/// The refusal for a wrong answer: no call here is refused for it.
 pub(crate) const WRONG: Refusal = Refusal::Full;
 
-/// A call by the first of these steps, or by all.
+/// Makes a call by the first of the given steps, or by all of them.
 fn played(rt: &HostRuntime, session: &mut Session, how: How, steps: &[Step]) -> Result<(), Refusal>
     requires { session.old.begun ≡ false }
     ensures { session.new.begun ≡ false }
@@ -109,7 +110,7 @@ fn played(rt: &HostRuntime, session: &mut Session, how: How, steps: &[Step]) -> 
     }
 }
 
-/// Plays steps, each of which moves all services or is an edit. Whether the answers say so.
+/// Plays steps, each of which moves all services or is an edit, and checks that the answers say so.
 fn played_all(alloc: Global, session: &mut Session, steps: &[Step]) -> Result<(), Refusal>
     requires { session.old.begun ≡ false }
     ensures { session.new.begun ≡ false }
@@ -134,7 +135,8 @@ fn are_due(steps: &[Step], answers: &[Result<Report, Refusal>]) -> bool {
     steps.len() == answers.len()
 }
 
-/// Calls what carries out a step of this kind. A wrong answer is reported as strange.
+/// Makes the call that carries out a step of this kind. Reports a wrong answer as the refusal
+/// `WRONG`.
 pub(crate) fn by_events(alloc: Global, session: &mut Session, step: &Step) -> Result<(), Refusal>
     requires { session.old.begun ≡ false }
     ensures { session.new.begun ≡ false }
@@ -169,7 +171,7 @@ fn edited(alloc: Global, session: &mut Session, step: &Step) -> Result<(), Refus
     }
 }
 
-/// Whether a call by the request of a change, or by its names, answers as it must.
+/// Returns true if a call by the request of a change, or by its names, answers as it must.
 fn is_asked(
     rt: &HostRuntime,
     session: &Session,
@@ -188,7 +190,8 @@ fn is_asked(
     }
 }
 
-/// A plan alone. Whether it is the one by which `root` would go down where all are up.
+/// Makes a plan alone, and checks that it is the one by which `root` would go down where all are
+/// up.
 pub(crate) fn planned(alloc: Global, session: &Session, step: &Step) -> Result<(), Refusal> {
     let Step::Change(request, _) = step else {
         return Err(WRONG);

@@ -17,7 +17,7 @@ pub(crate) struct Due {
 const SHORT: &[u8] = b"undorc: Memory\n";
 
 impl Due {
-    /// A writer that takes a text, or what is said where memory runs out.
+    /// Creates a writer that takes a text, or what is said if memory runs out.
     pub(crate) fn new(text: &'static str) -> Due {
         Due {
             left: Some(text.as_bytes()),
@@ -25,7 +25,7 @@ impl Due {
         }
     }
 
-    /// Whether all of the text has come.
+    /// Returns true if all of the text has come.
     pub(crate) fn is_whole(&self) -> bool {
         matches!(self.left, Some([]))
     }
@@ -53,8 +53,8 @@ fn left_of(text: Option<&'static [u8]>, buf: &[u8]) -> Option<&'static [u8]> {
     }
 }
 
-/// What a command came to that is due to end with a status, by what it wrote and what it said of a
-/// fault. Where memory ran out it has written nothing.
+/// Returns the result of a command that must end with the status `due`, by its output and its fault
+/// text. A command that ran out of memory must have written nothing.
 pub(crate) fn ended(status: u8, due: u8, writer: &Due, faults: &Due) -> Result<(), Fault> {
     if status == due && writer.is_whole() && faults.is_whole() {
         return Ok(());

@@ -10,7 +10,7 @@ use rc_set::{NoMem, Set};
 use std::alloc::{AllocGlobal, Global};
 use std::io::Print;
 
-/// Whether the line of two states has them, and stands on the second.
+/// Returns true if the line of two states has them, and stands on the second.
 pub fn is_of_states(
     rt: &(impl Print + AllocGlobal),
     before: &Table,
@@ -26,7 +26,7 @@ pub fn is_of_states(
     }
 }
 
-/// The state in which these services are live.
+/// Returns the state in which the given services are live.
 fn state_of(alloc: Global, live: &[u16], table: &Table) -> Result<(Set, Table), NoMem>
     ensures { IfOk result (λ state. length state.0 ≡ 5) }
 {
@@ -40,8 +40,8 @@ fn state_of(alloc: Global, live: &[u16], table: &Table) -> Result<(Set, Table), 
     }
 }
 
-/// Whether different services are live in two states, and their line has them and stands on the
-/// second.
+/// Returns true if different services are live in two states, and their line has them and stands on
+/// the second.
 fn of_two(
     rt: &(impl Print + AllocGlobal),
     first: (Set, Table),
@@ -60,8 +60,8 @@ fn of_two(
     }
 }
 
-/// Whether a line of at most three states stands on its second, in which two services are live that
-/// were raised, and which has a bundle more.
+/// Returns true if a line of at most three states has two and stands on the second, in which two
+/// raised services are live, and which has one more bundle.
 fn is_line_of_two(line: &Line) -> bool
     requires { line.now.is_open ≡ false }
 {
@@ -73,7 +73,7 @@ fn is_line_of_two(line: &Line) -> bool
     is_raised && entry.edit().len() == 1 && holds(line.live(), &[LOG, ROOT])
 }
 
-/// Whether lines that begin with the last state of a line stand on it alone.
+/// Returns true if lines that begin with the last state of a line have that state alone.
 fn is_fresh_by_last(rt: &(impl Print + AllocGlobal), line: &Line) -> Result<bool, NoMem>
     requires { line.now.is_open ≡ false }
 {
@@ -92,7 +92,7 @@ fn is_fresh_by_last(rt: &(impl Print + AllocGlobal), line: &Line) -> Result<bool
     Ok(is_right)
 }
 
-/// Whether a line has the current state of another alone.
+/// Returns true if a line has only the current state of another.
 fn is_fresh(line: &Line, other: &Line, bound: u32) -> bool {
     line.states() == 1
         && line.cursor() == 0
@@ -102,7 +102,7 @@ fn is_fresh(line: &Line, other: &Line, bound: u32) -> bool {
         && line.table().same(other.table())
 }
 
-/// Whether a step on from the state before the last leads to the table of the last.
+/// Returns true if a step on from the state before the last leads to the table of the last.
 pub fn is_stepped_on(
     rt: &(impl Print + AllocGlobal),
     line: &Line,

@@ -27,7 +27,7 @@ const INPUT: &[u8] = b"db log\nnet";
 /// Two transitions that are under way.
 const TAKEN: [Event; 2] = [Event::Take(1, NET), Event::Take(2, LOG)];
 
-/// The same, and their ends.
+/// The two transitions, and their ends.
 const ENDED: [Event; 4] = [
     Event::Take(1, NET),
     Event::Take(2, LOG),
@@ -54,7 +54,7 @@ pub enum Made {
     Ends,
 }
 
-/// Makes a value. Whether it is right.
+/// Makes a value, and returns true if it is right.
 pub fn is_made(rt: &(impl Print + AllocGlobal), db: &Db, made: Made) -> Result<bool, NoMem> {
     match made {
         Made::Chain => is_drafted(rt, false, &[2, 1, 0]),
@@ -67,7 +67,8 @@ pub fn is_made(rt: &(impl Print + AllocGlobal), db: &Db, made: Made) -> Result<b
     }
 }
 
-/// Whether these are the services of the graph in their order, or those of the circle.
+/// Returns true if the given services are those of the graph in their order, or those of the
+/// circle.
 fn is_drafted(
     rt: &(impl Print + AllocGlobal),
     is_circle: bool,
@@ -110,7 +111,7 @@ fn need_next(draft: &mut Draft, is_circle: bool) -> Result<(), NoMem>
     Ok(())
 }
 
-/// Whether the text of a database is read as that, also where more bytes follow.
+/// Returns true if the text of a database is read back as that database, also if more bytes follow.
 fn is_read_back(rt: &(impl Print + AllocGlobal), db: &Db) -> Result<bool, NoMem> {
     let mut text = write_db(rt.alloc(), db)?;
     is_text_of(rt, &mut text, db)
@@ -132,7 +133,8 @@ fn is_text_of(rt: &(impl Print + AllocGlobal), text: &mut Vec<u8>, db: &Db) -> R
     Ok(is_opened(rt.alloc(), text, long, db)? && is_before && is_whole && is_front && is_form)
 }
 
-/// Whether a text at the front of an input is read as a database, before a byte that is left.
+/// Returns true if a text at the front of an input is read as a database, before a byte that is
+/// left.
 fn is_before(alloc: Global, bytes: &[u8], db: &Db) -> Result<bool, NoMem> {
     match database_of(alloc, None, bytes) {
         Ok((other, rest)) => Ok(is_read(Ok(other), db)? && rest.len() == 1),
@@ -140,7 +142,8 @@ fn is_before(alloc: Global, bytes: &[u8], db: &Db) -> Result<bool, NoMem> {
     }
 }
 
-/// Whether an input is read whole, and as many bytes at its beginning as a database.
+/// Returns true if an input is read whole, and so many bytes at its beginning are read as a
+/// database.
 fn is_opened(alloc: Global, bytes: &[u8], long: usize, db: &Db) -> Result<bool, NoMem> {
     match open(alloc, None, &mut Noted::new(bytes)) {
         Ok(opened) => {
@@ -156,7 +159,7 @@ fn is_opened(alloc: Global, bytes: &[u8], long: usize, db: &Db) -> Result<bool, 
     }
 }
 
-/// Whether a text says five services and a bundle, and one byte follows.
+/// Returns true if a text says five services and a bundle, and one byte follows.
 fn is_form(alloc: Global, bytes: &[u8]) -> Result<bool, NoMem> {
     let read = read_form(alloc, bytes);
     let is_right = match &read {
@@ -180,7 +183,7 @@ fn is_read(read: Result<Db, TextFault>, db: &Db) -> Result<bool, NoMem> {
     is_right
 }
 
-/// Whether so many bytes at the beginning are read as a database.
+/// Returns true if so many bytes at the beginning are read as a database.
 fn is_at_front(alloc: Global, bytes: &[u8], long: usize, db: &Db) -> Result<bool, NoMem> {
     match read_db_front(alloc, bytes) {
         Ok((other, taken)) => Ok(is_read(Ok(other), db)? && taken == long),
@@ -188,7 +191,7 @@ fn is_at_front(alloc: Global, bytes: &[u8], long: usize, db: &Db) -> Result<bool
     }
 }
 
-/// Whether the whole input is read, and its first line.
+/// Returns true if the whole input is read, and its first line.
 fn is_input(rt: &(impl Print + AllocGlobal)) -> Result<bool, NoMem> {
     let is_whole = is_read_whole(read_all(rt.alloc(), &mut Noted::new(INPUT)))?;
     go_on_to(rt, "Lines::next");
@@ -215,7 +218,7 @@ fn is_first_line(next: Result<Option<(Vec<u8>, bool)>, Failure>) -> Result<bool,
     }
 }
 
-/// Whether the words of a line are two names, the first of which is copied, and those of services.
+/// Returns true if the words of a line are two names of services, and the first of them is copied.
 fn are_names(rt: &(impl Print + AllocGlobal), db: &Db) -> Result<bool, NoMem> {
     let Some((words, _)) = rc_dbtext::lexer::words_of(INPUT) else {
         return Ok(false);
@@ -242,7 +245,7 @@ fn are_known(
     }
 }
 
-/// Whether the copy of the first name says the same.
+/// Returns true if the copy of the first name says the same.
 fn is_copied(alloc: Global, words: &[NameWord<'_>]) -> Result<bool, NoMem> {
     match words.first() {
         Some(word) => Ok(matches!(word.copy(alloc)?.text(), "db")),
@@ -250,7 +253,7 @@ fn is_copied(alloc: Global, words: &[NameWord<'_>]) -> Result<bool, NoMem> {
     }
 }
 
-/// Whether a line has two words, which are texts.
+/// Returns true if a line has two words, which are texts.
 fn are_words(alloc: Global) -> Result<bool, NoMem> {
     let words = words_of(alloc, INPUT)?;
     match texts_of(alloc, &words)? {
@@ -259,7 +262,7 @@ fn are_words(alloc: Global) -> Result<bool, NoMem> {
     }
 }
 
-/// Whether the ends of two takes are added, and then a stop.
+/// Returns true if the ends of two takes are added, and then a stop.
 fn are_ends(rt: &(impl Print + AllocGlobal)) -> Result<bool, NoMem> {
     let ended = with_ends(rt.alloc(), &TAKEN)?;
     let is_ended = ended.as_slice() == ENDED.as_slice();

@@ -31,7 +31,8 @@ pub enum Opening {
     Edit,
 }
 
-/// Opens a copy of a line, and shows whether it is as the line is in the end.
+/// Opens a copy of a line, and prints the result, and what the copy is in the end compared with the
+/// line.
 pub fn show_opening(
     rt: &(impl Print + AllocGlobal),
     graph: &Graph,
@@ -54,7 +55,7 @@ pub fn show_opening(
     show_line(rt, left)
 }
 
-/// What a line is in the end beside what it was.
+/// Returns the word for what a line is in the end, compared with what it was.
 fn left_so(copied: &Line, line: &Line, opening: Opening) -> &'static str
     requires { line.now.is_open ≡ false }
 {
@@ -69,8 +70,8 @@ fn left_so(copied: &Line, line: &Line, opening: Opening) -> &'static str
     }
 }
 
-/// Whether a line of three states has moved: where it stands, and by which entry it came there. An
-/// undo that was split has a further one.
+/// Returns true if a line of three states has moved: it stands where it must, and the entry by
+/// which it came there is right. An undo that was split has a further entry.
 fn is_moved(line: &Line, opening: Opening) -> bool
     requires { line.now.is_open ≡ false }
 {
@@ -116,7 +117,7 @@ fn given_up(
     }
 }
 
-/// Opens a line to an undo, and closes it where only `log` is live.
+/// Opens a line to an undo, and closes it with only `log` live.
 fn split(rt: &(impl Print + AllocGlobal), line: &mut Line, what: &str) -> Result<(), NoMem>
     requires { line.old.is_open ≡ false }
 {
@@ -141,7 +142,7 @@ fn closed_on(rt: &(impl Print + AllocGlobal), line: &mut Line, live: &Set) -> Re
     }
 }
 
-/// Opens a line to a change that lowers all, and closes that.
+/// Opens a line to a change that lowers all, and closes it.
 fn lowered_all(
     rt: &(impl Print + AllocGlobal),
     graph: &Graph,
@@ -161,7 +162,7 @@ fn lowered_all(
     came
 }
 
-/// The plan from some services to others, where none of them lacks what it needs.
+/// Returns the plan from some services to others. Returns none if one of them lacks a dependency.
 pub(crate) fn plan_to(
     alloc: Global,
     graph: &Graph,
@@ -179,7 +180,7 @@ pub(crate) fn plan_to(
     Ok(Some(between(alloc, graph, from, to)?))
 }
 
-/// Opens a line to a plan, and closes it where none is live.
+/// Opens a line to a plan, and closes it with no service live.
 fn lowered(
     rt: &(impl Print + AllocGlobal),
     line: &mut Line,
@@ -200,7 +201,7 @@ fn lowered(
     }
 }
 
-/// Opens a line to an edit that removes all bundles, and closes that.
+/// Opens a line to an edit that removes all bundles, and closes it.
 fn emptied(rt: &(impl Print + AllocGlobal), line: &mut Line, what: &str) -> Result<(), NoMem>
     requires { line.old.is_open ≡ false }
 {
@@ -209,7 +210,7 @@ fn emptied(rt: &(impl Print + AllocGlobal), line: &mut Line, what: &str) -> Resu
     entered(rt, line, edit)
 }
 
-/// The edit that removes all bundles of a line.
+/// Returns the edit that removes all bundles of a line.
 fn edit_to_none(alloc: Global, line: &Line) -> Result<Edit, NoMem>
     requires { line.now.is_open ≡ false }
     ensures { IfOk result (λ edit. (table : Bundles) × IsEditFrom line.now.line edit table) }

@@ -1,4 +1,4 @@
-//! Calls that alter a value of their own, by which each is compared with what it was.
+//! Calls that alter a value of their own. The value is then compared with what it was.
 
 ghost use Rattle.std.specs.Prelude.{◌≡◌, length, IfOk};
 
@@ -31,7 +31,7 @@ static TEXTS: [&str; 8] = ["b", "c", "d", "e", "f", "g", "h", "i"];
 /// As many needs of the first service as stand in a list that has taken no memory.
 const EIGHT: [u16; 8] = [1, 2, 3, 4, 5, 6, 7, 8];
 
-/// The call, what it came to, and whether the value is as it was.
+/// Makes a call, and prints its result, and whether the value is as it was.
 pub fn show_own(rt: &(impl Print + AllocGlobal), what: &str, given: Given) -> io::Result<()> {
     match given {
         Given::Names => show_names(rt, what),
@@ -48,7 +48,7 @@ fn show_names(rt: &(impl Print + AllocGlobal), what: &str) -> io::Result<()> {
     shown
 }
 
-/// Names the call on eight names, and makes it.
+/// Makes the call on eight names, and prints its name and its result.
 fn show_added(rt: &(impl Print + AllocGlobal), what: &str, names: &mut Names) -> io::Result<()> {
     add_eight(rt.alloc(), names)?;
     let (added, again) = two_names(rt.alloc())?;
@@ -58,7 +58,7 @@ fn show_added(rt: &(impl Print + AllocGlobal), what: &str, names: &mut Names) ->
     show_same(rt, are_eight(names))
 }
 
-/// A name that comes before the eight, twice.
+/// Returns a name that comes before the eight, and a copy of it.
 fn two_names(alloc: Global) -> Result<(Name, Name), NoMem> {
     let name = name_of(alloc, "a")?;
     let again = name.copy(alloc)?;
@@ -72,7 +72,7 @@ fn add_eight(alloc: Global, names: &mut Names) -> Result<(), NoMem> {
     Ok(())
 }
 
-/// Adds a name. Whether it is new.
+/// Adds a name, and returns true if it is new.
 fn add(names: &mut Names, name: Name) -> Result<bool, NoMem> {
     if names.len() >= MAX_NAMES {
         return Ok(false);
@@ -80,7 +80,7 @@ fn add(names: &mut Names, name: Name) -> Result<bool, NoMem> {
     names.add(name)
 }
 
-/// Adds a name, and once more. Whether it was new the first time alone.
+/// Adds a name twice, and returns true if it was new only the first time.
 fn named(rt: &impl Print, names: &mut Names, added: Name, again: Name) -> Result<bool, NoMem> {
     let is_new = add(names, added)?;
     go_on_to(rt, "add of a name that is there");
@@ -97,7 +97,7 @@ fn are_eight(names: &Names) -> bool {
     names.len() == 8 && names.find("a").is_none()
 }
 
-/// Names the call on no names, and makes it.
+/// Makes the call on no names, and prints its name and its result.
 fn show_no_names(rt: &(impl Print + AllocGlobal), what: &str) -> io::Result<()> {
     let name = name_of(rt.alloc(), "a")?;
     let mut names = Names::new(rt.alloc());
@@ -134,7 +134,7 @@ fn needed(rt: &impl Print, draft: &mut Draft) -> Result<(), NoMem>
     draft.need(0, 9)
 }
 
-/// Whether the first service needs the eight after it, and nothing else.
+/// Returns true if the first service needs the eight after it, and nothing else.
 fn has_eight_needs(draft: Draft) -> bool {
     match draft.finish() {
         Ok(graph) => graph.len() > 0 && graph.needs(0) == EIGHT.as_slice(),
@@ -170,7 +170,7 @@ fn put_eight(alloc: Global, table: &mut Table) -> Result<(), NoMem> {
     Ok(())
 }
 
-/// Names the call, and makes it.
+/// Makes the call on a table, and prints its name and its result.
 fn show_put(
     rt: &(impl Print + AllocGlobal),
     what: &str,
@@ -185,7 +185,7 @@ fn show_put(
     show_same(rt, table.same(before))
 }
 
-/// The name of a bundle, and its set twice.
+/// Returns the name of a bundle, its set, and a copy of the set.
 fn bundle_of(alloc: Global) -> Result<(Name, Set, Set), NoMem> {
     let name = name_of(alloc, "a")?;
     let set = set_of(alloc, 5, &[0, 1])?;
@@ -193,8 +193,8 @@ fn bundle_of(alloc: Global) -> Result<(Name, Set, Set), NoMem> {
     Ok((name, set, again))
 }
 
-/// Puts a bundle in, puts it in once more, and takes it out. Whether it was new the first time
-/// alone, and is what was put in.
+/// Puts a bundle in, puts it in once more, and takes it out. Returns true if it was new only the
+/// first time, and what comes out is what was put in.
 fn put_twice(
     rt: &impl Print,
     table: &mut Table,
@@ -209,7 +209,7 @@ fn put_twice(
     Ok(is_of_two(table.clear(name.text())) && is_new && is_old && table.len() == 8)
 }
 
-/// Whether a set has the services of the bundle.
+/// Returns true if a set has the services of the bundle.
 fn is_of_two(set: Option<Set>) -> bool {
     match set {
         Some(set) => holds(&set, &[0, 1]),
@@ -217,7 +217,7 @@ fn is_of_two(set: Option<Set>) -> bool {
     }
 }
 
-/// Puts a bundle in, and returns the one in whose place it comes.
+/// Puts a bundle in, and returns the set of the one that it replaces.
 fn put_one(table: &mut Table, name: &Name, set: Set) -> Result<Option<Set>, NoMem> {
     if table.len() < MAX_BUNDLES {
         return table.set(name, set);

@@ -24,10 +24,10 @@ pub enum Pushed {
     Line,
 }
 
-/// What the text has before.
+/// The bytes that the text has before.
 const HEAD: &[u8] = b"bundles 1\n";
 
-/// What is to stand behind it then.
+/// Returns the bytes that a call must append.
 fn due(pushed: Pushed) -> &'static [u8] {
     match pushed {
         Pushed::Bundle => b"bundle site web\n",
@@ -37,7 +37,7 @@ fn due(pushed: Pushed) -> &'static [u8] {
     }
 }
 
-/// Appends to a text, and shows whether that is as before.
+/// Appends to a text, and prints whether the text is as before, appended to or altered.
 pub fn show_pushed(
     rt: &(impl Print + AllocGlobal),
     db: &Db,
@@ -79,7 +79,7 @@ fn push(
     }
 }
 
-/// What a text is beside what it was.
+/// Returns the word for a text, compared with what it was.
 fn left_of(text: &[u8], due: &[u8]) -> &'static str {
     match text.strip_prefix(HEAD) {
         Some(rest) if rest.is_empty() => "as before",

@@ -23,7 +23,7 @@ pub enum Query {
     ServiceCopy,
 }
 
-/// Whether a query answers what is due. The words of the queries that have some are `site`.
+/// Returns true if a query answers what is due. The names of the queries that have some are `site`.
 pub fn is_answer(alloc: Global, db: &Db, query: Query, words: &[String]) -> Result<bool, NoMem> {
     match query {
         Query::List => is_listed(alloc, db),
@@ -52,7 +52,7 @@ fn due(query: Query) -> &'static [u16] {
     }
 }
 
-/// Whether these services are the answer.
+/// Returns true if the answer is the given services.
 fn are_ids(answer: Result<Vec<u16>, QueryFault>, wanted: &[u16]) -> Result<bool, NoMem> {
     match answer {
         Ok(ids) => Ok(ids.as_slice() == wanted),
@@ -88,7 +88,7 @@ fn has_script(alloc: Global, db: &Db) -> Result<bool, NoMem> {
     }
 }
 
-/// Whether the first oneshot has this text by itself, or whether a copy of it is the same.
+/// Returns true if the first oneshot has the right text by itself, or if a copy of it is the same.
 fn has_text(alloc: Global, db: &Db, query: Query) -> Result<bool, NoMem> {
     if db.names().len() <= NET {
         return Ok(false);
@@ -109,7 +109,7 @@ fn is_selected(alloc: Global, db: &Db, words: &[String]) -> Result<bool, NoMem> 
     }
 }
 
-/// Whether `root` would go down by a request, as far as it may.
+/// Returns true if a request would bring `root` down as far as it may go.
 pub fn is_planned(alloc: Global, db: &Db, up: &Set, request: &Request) -> Result<bool, NoMem> {
     let graph = db.graph();
     if up.bound() != graph.len() || up.bound() != db.names().len() || !graph.closed(up) {
@@ -122,8 +122,8 @@ pub fn is_planned(alloc: Global, db: &Db, up: &Set, request: &Request) -> Result
     }
 }
 
-/// Whether a plan is the one by which `root` would go down where all are up: what needs it does,
-/// and it is kept, since it is essential.
+/// Returns true if a plan is the one by which `root` would go down where all are up. The services
+/// that need it go down, and it is kept, since it is essential.
 pub fn is_fall_of_root(plan: &Plan) -> bool {
     holds(plan.opening(), &[DB, LOG, NET, ROOT, WEB])
         && holds(plan.lower(), &[DB, NET, WEB])

@@ -31,7 +31,7 @@ const LOGGED: &[u8] = b"-t 5 -u change site\ntake 1 root\ndone 1 root ok\n";
 /// The report that the recovery returns.
 const REPORT: &[u8] = b"raised root\nuntried db log net web\nok\n";
 
-/// Recovers a change of a session, by its database, and tells whether the files are as they were.
+/// Recovers a change of a session, by its database, and prints whether the log is as it was.
 pub fn show_recovered(
     rt: &(impl Print + AllocGlobal),
     what: &str,
@@ -54,7 +54,7 @@ pub fn show_recovered(
     }
 }
 
-/// The file of a session, and the log of the change.
+/// Creates the file of a session, and the log of the change.
 fn files_of(alloc: Global, session: &Session) -> Result<MemoryFiles, NoMem>
     requires { session.now.begun ≡ false }
 {
@@ -85,7 +85,7 @@ fn show_on(
     show_same(rt, files.log.ends_with(LOGGED))
 }
 
-/// Whether the events that are logged are read, and the change is entered.
+/// Returns true if the logged events are read, and the change is entered.
 fn is_by_texts(
     rt: &(impl Print + AllocGlobal),
     db: Db,
@@ -113,7 +113,7 @@ fn is_entered(made: Result<Option<Recovered>, RecoverFault>) -> Result<bool, NoM
     }
 }
 
-/// Whether the change is entered in the files.
+/// Returns true if the change is entered in the files.
 fn is_by_files(alloc: Global, db: Db, files: &mut MemoryFiles) -> Result<bool, NoMem> {
     match recover_files(alloc, db, files) {
         Ok(Some(report)) => Ok(report.as_slice() == REPORT && files.log.is_empty()),

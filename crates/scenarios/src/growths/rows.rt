@@ -104,71 +104,73 @@ use crate::growths::values::Value::{self};
 
 #[derive(Clone, Copy)]
 pub(crate) enum How {
-    /// On what the session holds.
+    /// A call on what the session holds.
     Of(Value),
     /// A run is begun and abandoned.
     Abandon,
     /// A run is begun and poisoned.
     Spoil,
-    /// One is begun, run by one worker and completed.
+    /// A run is begun, run by one worker and completed.
     Complete,
-    /// By the step's events.
+    /// The step is carried out by its events.
     By,
-    /// As a step that was cut short after its events.
+    /// The step is entered as one that was cut short after its events.
     Recover,
-    /// As an undo or redo of an edit.
+    /// The step is an undo or redo of an edit.
     Edit,
-    /// As a plan alone.
+    /// The step is only planned.
     Dry,
     /// A query by the step's names.
     Ask(Query),
-    /// On a copy of the database's bundles, which is given outright, or only looked at.
+    /// An edit of a copy of the database's bundles. If true, the call alters the copy; if false, it
+    /// only makes the edit.
     Table(bool),
-    /// All steps, one after the other.
+    /// All steps are played, one after the other.
     Play,
-    /// By so many workers, with a gate.
+    /// The step is carried out by so many workers, with a gate.
     Workers(u8),
-    /// By one worker, with a gate whose third moment is 5.
+    /// The step is carried out by one worker, with a gate whose third moment is 5.
     Within,
     /// A run that is stopped.
     Stop,
     /// A line of two states.
     States,
-    /// As a text that is due, of what the session has or of a line.
+    /// A text of what the session has, or of a line, and the text that is due.
     Text(Texts, &'static str),
-    /// From the state before the last to that.
+    /// A step from the state before the last to the last.
     StepOn,
-    /// On a copy of the session's line, which is opened and then closed or given up.
+    /// A copy of the session's line is opened and then closed or given up.
     Opening(OpenTo),
     /// A session of its own, with at most so many states, 0 for the usual number.
     Session(u32),
-    /// One that goes on with the session's line.
+    /// A session that continues the session's line.
     Resume,
-    /// One that goes on with the session's files.
+    /// A session that continues from the session's files.
     Recovered(Recovering),
-    /// On a value of its own.
+    /// A call on a value of its own.
     Own(Given),
-    /// On a text that has bytes before.
+    /// A call that appends to a text with bytes before.
     Push(Pushed),
-    /// On trees that have these files beside others. It writes, or says of a fault, what follows.
+    /// Trees are compiled that have these files beside others. The output and the fault text
+    /// follow.
     Compile(&'static str, &'static str, &'static str),
     /// A command by its words.
     Command(Run),
-    /// What the words ask for.
+    /// The arguments of a command are parsed.
     Asked(&'static str),
-    /// On the log of an update.
+    /// The log of an update is read.
     Begins,
     /// Values that are made one after the other.
     Make(Made),
-    /// On a tree in memory, which is altered.
+    /// A tree in memory is altered.
     Alter(Altering),
-    /// On a tree in memory, which is read and compiled.
+    /// A tree in memory is read and compiled.
     Memory,
-    /// On the tree of a directory, likewise.
+    /// The tree of a directory is read and compiled.
     Folder,
-    /// As a plan that stands on the database alone.
+    /// A plan is made from the database alone.
     Plan,
-    /// As what is served of a session.
+    /// The session is served.
     Serve(Serving),
     /// A gate that starts programs.
     Shell,
@@ -182,7 +184,7 @@ pub(crate) enum How {
 /// between them; where there are none, neither is the word before them.
 pub(crate) type Row = (&'static str, How);
 
-/// The name of a row's call, the steps before it, and those by which it is made.
+/// Returns the name of a row's call, the steps before it, and those by which it is made.
 pub(crate) fn parts_of(call: &str) -> (&str, &str, &str) {
     let (call, by) = call.split_once("; by ").unwrap_or((call, ""));
     let (what, after) = call.split_once("; after ").unwrap_or((call, ""));

@@ -36,7 +36,7 @@ pub(crate) enum Serving {
     ShowRedo,
 }
 
-/// The bytes that are due.
+/// Returns the text that is due.
 fn answer_of(serving: Serving) -> &'static str {
     match serving {
         Serving::Input(_) => "raised db log net root web\nok\n",
@@ -46,10 +46,10 @@ fn answer_of(serving: Serving) -> &'static str {
     }
 }
 
-/// Within so many milliseconds a gate is made.
+/// The milliseconds within which a gate is made.
 const MOST: u64 = 60_000;
 
-/// Serves a session, and looks whether the answer is whole.
+/// Serves a session, and checks that the answer is whole.
 pub(crate) fn served<R: AllocGlobal + Threads + Wait + Sync>(
     rt: &R,
     session: &mut Session,
@@ -109,7 +109,7 @@ fn input_ended<R: AllocGlobal + Threads + Wait + Sync>(
     }
 }
 
-/// Does an undo by one worker.
+/// Carries an undo out by one worker, and returns how that ended.
 fn once_ended<R: AllocGlobal + Threads + Wait + Sync>(
     rt: &R,
     session: &mut Session,
@@ -135,7 +135,7 @@ fn once_ended<R: AllocGlobal + Threads + Wait + Sync>(
     ended
 }
 
-/// Whether a gate for a database is made, which logs its runs, and its clock goes from then on.
+/// Returns true if a gate for a database is made, which logs its runs, and its clock starts then.
 pub(crate) fn is_gate(rt: &HostRuntime, db: &Db, words: &[String]) -> Result<bool, NoMem> {
     let log = Messages(rt);
     let gate = ShellGate::new(rt, rt.alloc(), db, words, words)?
@@ -169,7 +169,7 @@ fn is_logging(
     Ok(is_new)
 }
 
-/// Whether a gate that reports outcomes answers for its clock.
+/// Returns true if a gate that reports outcomes answers by the clock of its inner gate.
 pub(crate) fn is_telling(rt: &HostRuntime, db: &Db) -> Result<bool, NoMem> {
     let log = Messages(rt);
     let alloc = rt.alloc();
@@ -180,7 +180,7 @@ pub(crate) fn is_telling(rt: &HostRuntime, db: &Db) -> Result<bool, NoMem> {
     Ok(is_new)
 }
 
-/// Whether a file in which no session is kept yet can be locked.
+/// Returns true if a file in which no session is kept yet can be locked.
 pub(crate) fn is_locked(rt: &HostRuntime) -> Result<bool, NoMem> {
     match LiveLock::take(rt, "live", false, false) {
         Ok(lock) => {

@@ -13,8 +13,8 @@ use std::alloc::{AllocError, AllocGlobal, Global};
 use std::io;
 use std::io::Print;
 
-/// Begins a session over a database, with a journal of so many states, or of as many as is usual
-/// where that is 0.
+/// Begins a session over a database, and prints the result. Its journal has at most so many states,
+/// or the usual number if that is 0.
 pub fn show_begun(
     rt: &(impl Print + AllocGlobal),
     what: &str,
@@ -28,7 +28,7 @@ pub fn show_begun(
     }
 }
 
-/// Whether a session begins on its first state, within its bound.
+/// Returns true if a session begins on its first state, within its bound.
 fn begun(alloc: Global, db: Db, bound: u32) -> Result<bool, NoMem> {
     if bound < 3 {
         let session = Session::new(alloc, db)?;
@@ -43,7 +43,7 @@ fn is_fresh(session: &Session, bound: u32) -> bool {
     journal.states() == 1 && journal.bound() == bound && session.live().is_empty()
 }
 
-/// Goes on over a database with the line of a session over one that is the same.
+/// Resumes the line of a session over an equal database, and prints the result.
 pub fn show_resumed(
     rt: &(impl Print + AllocGlobal),
     what: &str,
@@ -65,7 +65,7 @@ pub fn show_resumed(
     }
 }
 
-/// The line of a session, for a database.
+/// Returns the line of a session, for a database.
 fn line_of(alloc: Global, session: &Session, db: &Db) -> Result<Line, NoMem>
     requires { session.now.begun ≡ false }
     ensures { IfOk result (λ line. IsLineOf db.now line.line × (line.is_open ≡ false)) }
@@ -79,7 +79,7 @@ fn line_of(alloc: Global, session: &Session, db: &Db) -> Result<Line, NoMem>
     }
 }
 
-/// A session that goes on with a line has its states.
+/// Resumes a session with a line. Fails unless the session has the states of the line.
 fn resumed(db: Db, line: Line) -> Result<(), NoMem>
     requires { IsLineOf db line.line × (line.is_open ≡ false) }
 {

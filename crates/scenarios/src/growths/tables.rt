@@ -12,8 +12,8 @@ use std::alloc::{AllocGlobal, Global};
 use std::io;
 use std::io::Print;
 
-/// An edit of a table that is given outright, or only made, what it came to, and whether the table
-/// is as it was.
+/// Alters a copy of the database's table by an edit, or only makes the edit. Prints the result, and
+/// whether the table is as it was.
 pub fn show_table(
     rt: &(impl Print + AllocGlobal),
     db: &Db,

@@ -45,7 +45,7 @@ pub enum Text {
     UnknownWord,
 }
 
-/// Writes a text, or reads one. Whether it is the one that is due.
+/// Writes a text, or reads one. Returns true if it is the one that is due.
 pub fn is_text(alloc: Global, session: &Session, text: Text, due: &str) -> Result<bool, NoMem>
     requires { session.now.begun ≡ false }
 {
@@ -61,7 +61,7 @@ pub fn is_text(alloc: Global, session: &Session, text: Text, due: &str) -> Resul
     }
 }
 
-/// What a session has, and what it answers, as text.
+/// Writes what a session has, or what it answers, as text.
 fn written(alloc: Global, session: &Session, names: &Names, text: Text) -> Result<Vec<u8>, NoMem>
     requires { session.now.begun ≡ false }
 {
@@ -87,7 +87,7 @@ fn written(alloc: Global, session: &Session, names: &Names, text: Text) -> Resul
     }
 }
 
-/// The letters of a change with all options.
+/// Returns the letters of a change with all options.
 fn letters(alloc: Global) -> Result<Vec<u8>, NoMem> {
     let mut request = Request::plain(Mode::DownAll, Vec::new(alloc), 0);
     request.prune = true;
@@ -95,7 +95,7 @@ fn letters(alloc: Global) -> Result<Vec<u8>, NoMem> {
     Ok(request.letters(alloc)?.into_bytes())
 }
 
-/// The plan that brings these up where nothing is.
+/// Writes the plan that brings the given services up where nothing is up.
 fn planned(alloc: Global, names: &Names, graph: &Graph, up: &Set) -> Result<Vec<u8>, NoMem> {
     if up.bound() != names.len() {
         return Ok(Vec::new(alloc));
@@ -110,7 +110,7 @@ fn planned(alloc: Global, names: &Names, graph: &Graph, up: &Set) -> Result<Vec<
     }
 }
 
-/// The answer to a command that has brought these up.
+/// Writes the answer to a command that has brought the given services up.
 fn reported(alloc: Global, names: &Names, up: &Set) -> Result<Vec<u8>, NoMem> {
     let opening = Set::empty(alloc, up.bound())?;
     let raised = up.ids(alloc)?;
@@ -130,7 +130,7 @@ fn reported(alloc: Global, names: &Names, up: &Set) -> Result<Vec<u8>, NoMem> {
     text
 }
 
-/// The answer to an undo that is refused.
+/// Writes the answer to an undo that is refused.
 fn refused_step(alloc: Global, names: &Names, text: Text) -> Result<Vec<u8>, NoMem> {
     let step = Step::Undo(0, Vec::new(alloc));
     let refused = match text {
@@ -141,7 +141,7 @@ fn refused_step(alloc: Global, names: &Names, text: Text) -> Result<Vec<u8>, NoM
     refused
 }
 
-/// Whether the line of a step or an event is this one.
+/// Returns true if the line of a step or an event is the one that is due.
 fn is_line(alloc: Global, names: &Names, text: Text, due: &str) -> Result<bool, NoMem> {
     let command = Command::Undo(0);
     let line = match text {
@@ -156,7 +156,7 @@ fn is_line(alloc: Global, names: &Names, text: Text, due: &str) -> Result<bool, 
     }
 }
 
-/// Whether a line says a command.
+/// Returns true if a line is a command.
 fn is_command(read: Result<SessionLine, NoMem>) -> Result<bool, NoMem> {
     match read {
         Ok(line) => {
@@ -168,7 +168,7 @@ fn is_command(read: Result<SessionLine, NoMem>) -> Result<bool, NoMem> {
     }
 }
 
-/// Whether a script has one step.
+/// Returns true if a script has one step.
 fn is_one_step(read: Result<Vec<Step>, ScriptFault>) -> Result<bool, NoMem> {
     match read {
         Ok(steps) => {

@@ -1,4 +1,4 @@
-//! What is told of a call.
+//! The text that is printed of a call.
 
 use rc_board::Fault;
 use rc_session::Refusal;
@@ -6,12 +6,12 @@ use rc_set::NoMem;
 use std::io;
 use std::io::Print;
 
-/// Tells that a call is done, and names the next one.
+/// Prints that a call is done, and names the next one.
 pub fn go_on_to(rt: &impl Print, what: &str) {
     let _ = print!(rt; "done; {what}: ");
 }
 
-/// What a call is refused for.
+/// Returns the result of a call, with a lack of memory as a refusal.
 pub(crate) fn fault_of(came: Result<(), NoMem>) -> Result<(), Fault> {
     match came {
         Ok(()) => Ok(()),
@@ -19,7 +19,8 @@ pub(crate) fn fault_of(came: Result<(), NoMem>) -> Result<(), Fault> {
     }
 }
 
-/// The same of a call whose answer is looked at: a wrong one is strange.
+/// Returns the result of a call whose answer is checked: a wrong answer is strange, and a lack of
+/// memory is a refusal.
 pub(crate) fn came_of(is_right: Result<bool, NoMem>) -> Result<(), Fault> {
     match is_right {
         Ok(true) => Ok(()),
@@ -28,7 +29,7 @@ pub(crate) fn came_of(is_right: Result<bool, NoMem>) -> Result<(), Fault> {
     }
 }
 
-/// Tells what a call came to, with more to follow on the line.
+/// Prints the result of a call, with more to follow on the line.
 pub fn show_came(rt: &impl Print, came: Result<(), Fault>) -> io::Result<()> {
     match came {
         Ok(()) => print!(rt; "done, "),
@@ -36,18 +37,18 @@ pub fn show_came(rt: &impl Print, came: Result<(), Fault>) -> io::Result<()> {
     }
 }
 
-/// Tells what a call came to, and whether what it was made on is as it was.
+/// Prints the result of a call, and whether the value on which it was made is as before.
 pub(crate) fn show_end(rt: &impl Print, came: Result<(), NoMem>, is_same: bool) -> io::Result<()> {
     show_came(rt, fault_of(came))?;
     show_same(rt, is_same)
 }
 
-/// Tells whether what a call was made on is as it was.
+/// Prints whether the value on which a call was made is as before.
 pub(crate) fn show_same(rt: &impl Print, is_same: bool) -> io::Result<()> {
     show_line(rt, if is_same { "as before" } else { "altered" })
 }
 
-/// Tells this, and ends the line.
+/// Prints the given text, and ends the line.
 pub fn show_line(rt: &impl Print, line: &str) -> io::Result<()> {
     println!(rt; "{line}")
 }

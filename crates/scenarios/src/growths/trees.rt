@@ -1,4 +1,5 @@
-//! Trees: calls that alter one, what one says, what is read of it, and what is compiled of that.
+//! Trees: calls that alter a tree, what a tree says, what is read from it, and what is compiled
+//! from that.
 
 ghost use Rattle.std.specs.Prelude.{IfOk, map};
 ghost use Rattle.rc_source.specs.Meaning.{AreMeanings};
@@ -31,7 +32,7 @@ pub enum Altering {
 /// The files of a oneshot and of the longrun that it needs.
 const FILES: &str = "a/type=oneshot a/up=true a/dependencies.d/b= b/type=longrun b/run=";
 
-/// Alters a tree in memory, and tells whether it has the files that it had.
+/// Alters a tree in memory, and prints whether it has the files that it had.
 pub fn show_tree(
     rt: &(impl Print + AllocGlobal),
     what: &str,
@@ -64,17 +65,17 @@ fn altered(tree: &mut MemoryTree, altering: Altering) -> Result<(), NoMem> {
     }
 }
 
-/// Whether a tree has both services and no third one, and the file that is written.
+/// Returns true if a tree has both services, no third one, and the `up` file that it had.
 fn has_files(alloc: Global, tree: &mut MemoryTree) -> Result<bool, TreeFault> {
     Ok(has_two(alloc, tree)? && has_up(alloc, tree)? && !tree.has(alloc, "c", "type")?)
 }
 
-/// Whether a tree has two entries.
+/// Returns true if a tree has two entries.
 fn has_two<T: Tree>(alloc: Global, tree: &mut T) -> Result<bool, TreeFault> {
     Ok(tree.entries(alloc)?.len() == 2)
 }
 
-/// Whether the text that runs `true` is there.
+/// Returns true if the text that runs `true` is there.
 fn has_up<T: Tree>(alloc: Global, tree: &mut T) -> Result<bool, TreeFault> {
     match tree.bytes(alloc, "a", "up")? {
         Some(bytes) => Ok(bytes.as_slice() == b"true".as_slice()),
@@ -82,7 +83,7 @@ fn has_up<T: Tree>(alloc: Global, tree: &mut T) -> Result<bool, TreeFault> {
     }
 }
 
-/// Compiles these files with those of both services, and shows what that came to.
+/// Compiles the given files with those of both services, and prints the result.
 pub(crate) fn show_compiled(
     rt: &(impl Print + AllocGlobal),
     what: &str,
@@ -116,7 +117,7 @@ fn show_run(
     show_same(rt, true)
 }
 
-/// Whether a tree in memory says what it holds, and is compiled.
+/// Returns true if a tree in memory says what it holds, and is compiled.
 pub fn is_from_memory(rt: &(impl Print + AllocGlobal)) -> Result<bool, NoMem> {
     let mut trees = [MemoryTree::new(rt.alloc())];
     let is_right = is_filled(rt, &mut trees);
@@ -132,7 +133,7 @@ fn is_filled(rt: &(impl Print + AllocGlobal), trees: &mut [MemoryTree]) -> Resul
     is_read(rt, trees)
 }
 
-/// Whether the tree of a directory says what it holds, and is compiled.
+/// Returns true if the tree of a directory says what it holds, and is compiled.
 pub fn is_from_folder(rt: &HostRuntime, path: &str) -> Result<bool, NoMem> {
     let mut trees = [FolderTree::open(rt.clone()?, rt.alloc(), path)?];
     go_on_to(rt, "entries");
@@ -141,7 +142,7 @@ pub fn is_from_folder(rt: &HostRuntime, path: &str) -> Result<bool, NoMem> {
     is_right
 }
 
-/// Whether trees say that they hold these files, and what is read of them is compiled.
+/// Returns true if trees say that they hold the files, and what is read from them is compiled.
 fn is_read<T: Tree>(rt: &(impl Print + AllocGlobal), trees: &mut [T]) -> Result<bool, NoMem> {
     for tree in &mut *trees {
         if !is_answer(says_files(rt, tree))? {
@@ -163,7 +164,7 @@ fn says_files<T: Tree>(rt: &(impl Print + AllocGlobal), tree: &mut T) -> Result<
     Ok(has_two && has_one_need && has_up && tree.has(alloc, "b", "run")?)
 }
 
-/// Whether one name is listed of what the oneshot needs.
+/// Returns true if one dependency of the oneshot is listed.
 fn has_one_need<T: Tree>(alloc: Global, tree: &mut T) -> Result<bool, TreeFault> {
     match tree.listing(alloc, "a", "dependencies.d")? {
         Some(names) => Ok(names.len() == 1),
@@ -179,7 +180,7 @@ fn is_answer(answer: Result<bool, TreeFault>) -> Result<bool, NoMem> {
     }
 }
 
-/// Whether the definitions of both services were read, and make a database.
+/// Returns true if the definitions of both services were read, and make a database.
 fn is_compiled(
     rt: &(impl Print + AllocGlobal),
     read: Result<Vec<Definition>, SourceFault>,
@@ -198,7 +199,7 @@ fn is_compiled(
     is_right
 }
 
-/// Whether this is a database of two services, of which the first needs the second.
+/// Returns true if this is a database of two services, of which the first needs the second.
 fn is_of_two(compiled: Result<Db, CompileFault>) -> Result<bool, NoMem> {
     let is_right = match &compiled {
         Ok(db) => Ok(db.graph().len() == 2 && db.graph().needs(0) == [1].as_slice()),

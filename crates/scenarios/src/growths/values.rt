@@ -48,7 +48,7 @@ pub enum Value {
     Renames,
 }
 
-/// Makes a value. Whether it is right.
+/// Makes a value, and returns true if it is right.
 pub fn is_value(alloc: Global, session: &Session, value: Value, text: &[u8]) -> Result<bool, NoMem>
     requires { session.now.begun ≡ false }
 {
@@ -85,7 +85,7 @@ fn is_set(alloc: Global, set: &Set, value: Value) -> Result<bool, NoMem> {
     }
 }
 
-/// Whether a set that is empty becomes another, and empty again.
+/// Returns true if an empty set becomes equal to another, and then empty again.
 fn is_filled(made: &mut Set, set: &Set) -> bool
     requires { length made.old ≡ length set.now }
 {
@@ -114,8 +114,8 @@ fn is_same_name(alloc: Global, text: &str) -> Result<bool, NoMem> {
     Ok(Name::of(alloc, text)?.text() == text)
 }
 
-/// What an update comes to from a database to itself, of services that are all live. Where one is
-/// restarted, that goes down with what needs it.
+/// Returns true if a call of `rc_update` is right for an update from a database to itself, with all
+/// services live. A service that is restarted goes down with those that need it.
 fn is_updated(alloc: Global, db: &Db, live: &Set, value: Value) -> Result<bool, NoMem> {
     let restart = [Conversion {
         old: b"net",
@@ -141,7 +141,7 @@ fn is_updated(alloc: Global, db: &Db, live: &Set, value: Value) -> Result<bool, 
     }
 }
 
-/// Whether one service is lowered, two stay, and all are raised.
+/// Returns true if one service is lowered, two stay, and all are raised.
 fn is_carried(update: &Update) -> Result<bool, NoMem> {
     Ok(
         are_words(&update.lower, &["net"])
@@ -172,7 +172,7 @@ fn is_on_graph(alloc: Global, graph: &Graph, set: &Set, value: Value) -> Result<
     }
 }
 
-/// Whether bringing these up where nothing is up brings all up.
+/// Returns true if bringing the given services up where nothing is up brings all up.
 fn brings_all_up(alloc: Global, graph: &Graph, up: &Set, wanted: &Set) -> Result<bool, NoMem> {
     if up.bound() != graph.len() || wanted.bound() != graph.len() || !graph.closed(up) {
         return Ok(false);
@@ -213,7 +213,7 @@ fn is_read(alloc: Global, text: &[u8], db: &Db) -> Result<bool, NoMem> {
     is_right
 }
 
-/// Whether a text says two states before the current one.
+/// Returns true if a text says two states before the current one.
 fn is_form(alloc: Global, text: &[u8]) -> Result<bool, NoMem> {
     let read = read_form(alloc, text);
     let is_right = match &read {

@@ -14,12 +14,13 @@ use std::sync::Wait;
 use std::thread::Threads;
 use std::time::Clock;
 
-/// Where a run was stopped, it has one take, its end and the stop, and four services are untried.
+/// Returns true if a run was not stopped, or has one take, its end and the stop, and four services
+/// are untried.
 fn is_cut_short(report: &Report) -> bool {
     !report.stopped || (is_one_transition(&report.trace) && report.untried.len() == 4)
 }
 
-/// Whether a service was taken, its transition ended well, and the run was stopped at moment 5.
+/// Returns true if a service was taken, its transition succeeded, and a stop came at moment 5.
 fn is_one_transition(trace: &[Event]) -> bool {
     let [
         Event::Take(1, taken),
@@ -67,8 +68,8 @@ pub(crate) fn within<R: Print + AllocGlobal + Threads + Wait + Clock + Sync>(
     by_clock(rt, session, 1, step, StepClock::new(moments))
 }
 
-/// It is strange that a step is refused and the gate was asked, and that what was seen is not the
-/// run.
+/// Carries a step out by a clock. It is strange if a step is refused although the gate was asked,
+/// or if what was seen is not the run.
 fn by_clock<R: AllocGlobal + Threads + Wait + Clock + Sync>(
     rt: &R,
     session: &mut Session,

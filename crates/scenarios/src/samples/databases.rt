@@ -29,14 +29,14 @@ pub const SERVICES: [Row; 5] = [
 /// The bundles of the sample.
 pub const BUNDLES: [Bundle; 1] = [("site", &[WEB])];
 
-/// The sample database. Each oneshot runs the one text on both ways, but an essential one has
-/// nothing to run on the way down.
+/// Creates the sample database. Each oneshot runs the same text on both ways, but an essential one
+/// has nothing to run on the way down.
 pub fn sample(alloc: Global) -> Result<Db, Fail> {
     let parts = parts_of(alloc, &SERVICES, &SERVICES, &NEEDS, &BUNDLES)?;
     joined(parts)
 }
 
-/// A database of so many longruns that need nothing, and of the bundle `all` that has them.
+/// Creates a database of so many longruns that need nothing, and of the bundle `all` that has them.
 pub fn many_longruns(alloc: Global, many: u16) -> Result<Db, Fail> {
     let text = longruns_text(alloc, many)?;
     match read_db(alloc, text.as_bytes()) {
@@ -45,7 +45,8 @@ pub fn many_longruns(alloc: Global, many: u16) -> Result<Db, Fail> {
     }
 }
 
-/// Its text. The names are numbers of three digits, so at most 900 of them ascend.
+/// Returns the text of a database of so many longruns. The names are numbers of three digits, so at
+/// most 900 of them ascend.
 fn longruns_text(alloc: Global, many: u16) -> Result<String, NoMem> {
     let mut text = format!(in alloc; "undorc-db 1\nservices {many}\n")?;
     let mut bundle = String::from_str(alloc, "bundles 1\nbundle all")?;
@@ -61,7 +62,7 @@ fn longruns_text(alloc: Global, many: u16) -> Result<String, NoMem> {
     Ok(text)
 }
 
-/// The database of parts that fit.
+/// Creates the database of parts that fit together. Fails if they do not.
 pub fn joined(parts: Parts) -> Result<Db, Fail> {
     match Db::join(parts) {
         Ok(db) => Ok(db),
@@ -69,7 +70,8 @@ pub fn joined(parts: Parts) -> Result<Db, Fail> {
     }
 }
 
-/// The parts of a database: the names of some services, and the others of these.
+/// Creates the parts of a database: the names of some services, and the other parts of the services
+/// in `rows`.
 pub fn parts_of(
     alloc: Global,
     named: &[Row],
@@ -115,7 +117,7 @@ fn add_names(alloc: Global, names: &mut Names, rows: &[Row]) -> Result<(), NoMem
     Ok(())
 }
 
-/// A text that is a name.
+/// Reads a text that is a name.
 pub fn name_of(alloc: Global, text: &str) -> Result<Name, NoMem> {
     match Name::read(alloc, text) {
         Ok(name) => Ok(name),
@@ -154,7 +156,7 @@ fn text_of(alloc: Global, has_text: bool) -> Result<Option<String>, NoMem> {
     }
 }
 
-/// Puts these bundles in, whose sets have this bound.
+/// Puts the given bundles, whose sets have the given bound, into a table.
 fn put_all(alloc: Global, table: &mut Table, bound: u16, bundles: &[Bundle]) -> Result<(), NoMem>
     requires { bound ≤ 4096 }
 {
@@ -166,7 +168,7 @@ fn put_all(alloc: Global, table: &mut Table, bound: u16, bundles: &[Bundle]) -> 
     Ok(())
 }
 
-/// Puts a bundle in, in place of one of its name.
+/// Puts a bundle into a table, in place of one of its name.
 pub fn put(alloc: Global, table: &mut Table, text: &str, set: Set) -> Result<(), NoMem>
     requires { length table.old < 4096 }
 {
@@ -179,7 +181,7 @@ pub fn put(alloc: Global, table: &mut Table, text: &str, set: Set) -> Result<(),
     }
 }
 
-/// These words as owned text.
+/// Returns the given words as owned text.
 pub fn words_of(alloc: Global, words: &[&str]) -> Result<Vec<String>, NoMem> {
     let mut texts = Vec::new(alloc);
     for word in words {

@@ -27,7 +27,7 @@ impl Draw {
         z ^ (z >> 31)
     }
 
-    /// A number below a bound, or 0 where the bound is 0.
+    /// Draws a number below a bound, or 0 if the bound is 0.
     pub fn below(&mut self, bound: u16) -> u16
         ensures { result ≤ bound }
     {
@@ -35,7 +35,7 @@ impl Draw {
         (drawn as u16).min(bound)
     }
 
-    /// Some of the first services, each with a chance of one in so many.
+    /// Draws some of the first services, each with a chance of one in so many.
     pub fn some(&mut self, alloc: Global, services: u16, one_in: u16) -> Result<Vec<u16>, NoMem> {
         let mut drawn = Vec::new(alloc);
         for service in 0..services {
@@ -59,7 +59,7 @@ pub struct Change {
 }
 
 impl Change {
-    /// A change on two to nine services, without a deadline.
+    /// Draws a change on two to nine services, without a deadline.
     pub fn drawn(alloc: Global, draw: &mut Draw) -> Result<Change, Fail> {
         let services = 2 + draw.below(8);
         let mut change = Change {
@@ -87,7 +87,7 @@ fn draw_services(alloc: Global, draw: &mut Draw, change: &mut Change) -> Result<
     Ok(())
 }
 
-/// A graph of drawn needs.
+/// Draws a graph of so many services.
 pub fn drawn_graph(alloc: Global, draw: &mut Draw, services: u16) -> Result<Graph, Fail>
     requires { services ≤ 4096 }
 {
@@ -95,7 +95,7 @@ pub fn drawn_graph(alloc: Global, draw: &mut Draw, services: u16) -> Result<Grap
     graph_of(alloc, services, &needs)
 }
 
-/// Needs that make no cycle: all of the one direction, or all of the other.
+/// Draws needs that make no cycle: all of the one direction, or all of the other.
 fn drawn_needs(alloc: Global, draw: &mut Draw, services: u16) -> Result<Vec<(u16, u16)>, NoMem> {
     let turned = draw.below(2) == 0;
     let mut needs = Vec::new(alloc);
@@ -114,7 +114,7 @@ fn drawn_needs(alloc: Global, draw: &mut Draw, services: u16) -> Result<Vec<(u16
     Ok(needs)
 }
 
-/// Some services with all that they need.
+/// Draws some services, and returns them with all that they need.
 fn drawn_closed(alloc: Global, draw: &mut Draw, graph: &Graph) -> Result<Vec<u16>, NoMem> {
     let some = draw.some(alloc, graph.len(), 3)?;
     let set = set_of(alloc, graph.len(), &some);

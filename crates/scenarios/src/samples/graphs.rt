@@ -21,7 +21,7 @@ pub const WEB: u16 = 4;
 /// Which service of the sample needs which.
 pub const NEEDS: [(u16, u16); 4] = [(NET, ROOT), (DB, NET), (WEB, DB), (WEB, LOG)];
 
-/// The set of these ids, without those that are not below the bound.
+/// Returns the set of the given ids, without those that are not below the bound.
 pub fn set_of(alloc: Global, bound: u16, ids: &[u16]) -> Result<Set, NoMem>
     requires { bound ≤ 4096 }
     ensures { IfOk result (λ set. length set ≡ bound) }
@@ -35,13 +35,13 @@ pub fn set_of(alloc: Global, bound: u16, ids: &[u16]) -> Result<Set, NoMem>
     Ok(set)
 }
 
-/// Whether these are the ids of a set, ascending.
+/// Returns true if the given ids are those of a set, ascending.
 pub fn has_ids(alloc: Global, set: &Set, ids: &[u16]) -> Result<bool, NoMem> {
     let found = set.ids(alloc)?;
     Ok(found.as_slice() == ids)
 }
 
-/// The draft of these pairs, without those that name what is no service.
+/// Returns the draft of the given pairs, without those that name what is no service.
 fn draft_of(alloc: Global, services: u16, pairs: &[(u16, u16)]) -> Result<Draft, NoMem>
     requires { services ≤ 4096 }
     ensures { IfOk result (λ draft. length draft ≡ services) }
@@ -55,7 +55,7 @@ fn draft_of(alloc: Global, services: u16, pairs: &[(u16, u16)]) -> Result<Draft,
     Ok(draft)
 }
 
-/// The graph of these pairs, without those that name what is no service.
+/// Returns the graph of the given pairs, without those that name what is no service.
 pub fn graph_of(alloc: Global, services: u16, pairs: &[(u16, u16)]) -> Result<Graph, Fail>
     requires { services ≤ 4096 }
     ensures { IfOk result (λ graph. length graph ≡ services) }
@@ -64,7 +64,8 @@ pub fn graph_of(alloc: Global, services: u16, pairs: &[(u16, u16)]) -> Result<Gr
     Ok(draft.finish()?)
 }
 
-/// As many services as there may be, of which each but the first needs the first.
+/// Creates a graph of as many services as there may be, of which each but the first needs the
+/// first.
 pub fn widest_fan(alloc: Global) -> Result<Graph, Fail>
     ensures { IfOk result (λ graph. length graph ≡ 4096) }
 {

@@ -14,9 +14,9 @@ pub struct End {
     pub left: Vec<u16>,
 }
 
-/// A service goes down where it does not fail and all that need it are down or go down.
-/// It comes up where it does not fail and all that it needs is up or comes up. It is
-/// tried where nothing else keeps it.
+/// Returns the end of a change by the rules. A service goes down if it does not fail and all that
+/// need it are down or go down. It comes up if it does not fail and all that it needs is up or
+/// comes up. It is tried if nothing else keeps it.
 pub fn end_of(alloc: Global, change: &Change) -> Result<End, NoMem> {
     let moved = moved_of(alloc, change)?;
     let mut end = End {
@@ -35,7 +35,7 @@ pub fn end_of(alloc: Global, change: &Change) -> Result<End, NoMem> {
     }
 }
 
-/// Puts each service where it belongs in the end, once it is known what moved.
+/// Sorts each service into the end, once it is known what moved.
 fn sort_out(change: &Change, moved: &[u16], end: &mut End) -> Result<(), NoMem> {
     for service in 0..change.graph.len() {
         let is_up = change.up.contains(&service);
@@ -55,7 +55,8 @@ fn sort_out(change: &Change, moved: &[u16], end: &mut End) -> Result<(), NoMem> 
     Ok(())
 }
 
-/// The services that go down or come up: in each round one more on each way through the graph.
+/// Returns the services that go down or come up. Each round adds one more on each way through the
+/// graph.
 fn moved_of(alloc: Global, change: &Change) -> Result<Vec<u16>, NoMem> {
     let mut moved = Vec::new(alloc);
     for _ in 0..change.graph.len() {
@@ -72,8 +73,8 @@ fn moved_of(alloc: Global, change: &Change) -> Result<Vec<u16>, NoMem> {
     Ok(moved)
 }
 
-/// Whether nothing else keeps a service where it is: what needs it, if it is to go down, or what
-/// it needs, if it is to come up.
+/// Returns true if nothing else keeps a service where it is: what needs it, if it is to go down, or
+/// what it needs, if it is to come up.
 fn is_free(change: &Change, moved: &[u16], service: u16) -> bool
     requires { service < length change.now.graph }
 {

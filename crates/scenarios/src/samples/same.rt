@@ -9,7 +9,7 @@ use rc_line::Line;
 use rc_session::{Report, Step};
 use rc_set::Set;
 
-/// Whether two databases have the same names, services, needs and bundles.
+/// Returns true if two databases have the same names, services, needs and bundles.
 pub fn is_same(one: &Db, other: &Db) -> bool {
     let (names, others) = (one.names(), other.names());
     if names.len() != others.len() {
@@ -26,8 +26,8 @@ pub fn is_same(one: &Db, other: &Db) -> bool {
     one.table().same(other.table())
 }
 
-/// Whether two lines have the same states and bound, and stand on the same state: their current
-/// states are the same, and so are all entries.
+/// Returns true if two lines have the same states and bound, and stand on the same state: their
+/// current states are the same, and so are all entries.
 pub fn is_same_line(one: &Line, other: &Line) -> bool
     requires one { one.now.is_open ≡ false }
     requires other { other.now.is_open ≡ false }
@@ -48,7 +48,7 @@ pub fn is_same_line(one: &Line, other: &Line) -> bool
     true
 }
 
-/// Whether two lines have the same entry at a place, or none.
+/// Returns true if two lines have the same entry at a place, or both have none.
 fn is_same_entry(one: &Line, other: &Line, place: usize) -> bool
     requires one { one.now.is_open ≡ false }
     requires other { other.now.is_open ≡ false }
@@ -87,7 +87,7 @@ fn is_same_set(one: Option<&Set>, other: Option<&Set>) -> bool {
     }
 }
 
-/// Whether a set has these ids and no others.
+/// Returns true if a set has the given ids and no others.
 pub fn holds(set: &Set, ids: &[u16]) -> bool {
     for id in ids {
         if *id >= set.bound() || !set.contains(*id) {
@@ -100,8 +100,8 @@ pub fn holds(set: &Set, ids: &[u16]) -> bool {
 /// All services of the sample.
 pub const ALL: [u16; 5] = [0, 1, 2, 3, 4];
 
-/// Whether a report is that of a step of which all services of the sample move, or of an edit where
-/// all are up.
+/// Returns true if a report is that of a step that moves all services of the sample, or of an edit
+/// where all are up.
 pub fn is_due(step: &Step, report: &Report) -> bool {
     let none: &[u16] = &[];
     match step {
@@ -113,8 +113,8 @@ pub fn is_due(step: &Step, report: &Report) -> bool {
     }
 }
 
-/// Whether these were live in the beginning, these were lowered and these raised by these events,
-/// and nothing else happened.
+/// Returns true if `opening` was live in the beginning, `lowered` and `raised` were moved by the
+/// events of `trace`, and nothing else happened.
 pub fn is_report(
     report: &Report,
     opening: &[u16],

@@ -25,7 +25,7 @@ enum Act {
     Net,
     /// Brings `log` up alone, beside what is essential. It has no events.
     Prune,
-    /// The same, of which only one service came up.
+    /// Brings `site` up within a limit. Only `root` came up.
     Cut,
     /// Undoes a change, by taking these services, or an edit.
     Undo(&'static [u16]),
@@ -41,7 +41,7 @@ enum Act {
     Delete,
 }
 
-/// What a word of a row says.
+/// Returns the act that a word of a row says.
 fn act_of(word: &str) -> Option<Act> {
     match word {
         "up" => Some(Act::Up(0)),
@@ -61,7 +61,7 @@ fn act_of(word: &str) -> Option<Act> {
     }
 }
 
-/// The steps that these words say.
+/// Returns the steps that the given words say.
 pub fn steps_of(alloc: Global, words: &str) -> Result<Vec<Step>, NoMem> {
     let mut steps = Vec::new(alloc);
     for word in words.split(' ') {
@@ -87,7 +87,8 @@ fn step_of(alloc: Global, act: Act) -> Result<Step, NoMem> {
     }
 }
 
-/// A run in which one worker takes these services and ends them well.
+/// Returns the events of a run in which one worker takes the given services and ends them with
+/// success.
 fn run_of(alloc: Global, services: &[u16]) -> Result<Vec<Event>, NoMem> {
     let mut events = Vec::new(alloc);
     for service in services {
@@ -97,32 +98,32 @@ fn run_of(alloc: Global, services: &[u16]) -> Result<Vec<Event>, NoMem> {
     Ok(events)
 }
 
-/// A change that brings `site` up, in which one worker takes these services.
+/// Creates a change that brings `site` up, in which one worker takes the given services.
 pub fn up_site(alloc: Global, limit: u32, order: &[u16]) -> Result<Step, NoMem> {
     up_all(alloc, &["site"], limit, order)
 }
 
-/// The same of these names.
+/// Creates a change that brings the given names up, in which one worker takes the given services.
 pub fn up_all(alloc: Global, names: &[&str], limit: u32, order: &[u16]) -> Result<Step, NoMem> {
     let request = Request::plain(Mode::Up, words_of(alloc, names)?, limit);
     Ok(Step::Change(request, run_of(alloc, order)?))
 }
 
-/// A change of a name that has no events.
+/// Creates a change of a name without events.
 fn change_of(alloc: Global, mode: Mode, prune: bool, name: &str) -> Result<Step, NoMem> {
     let mut request = Request::plain(mode, words_of(alloc, &[name])?, 0);
     request.prune = prune;
     Ok(Step::Change(request, Vec::new(alloc)))
 }
 
-/// Defines a bundle of two services.
+/// Creates a step that defines a bundle of two services.
 fn add_bundle(alloc: Global, name: &str, force: bool) -> Result<Step, NoMem> {
     let contents = words_of(alloc, &["db", "log"])?;
     Ok(Step::Add(name_of(alloc, name)?, contents, force))
 }
 
-/// A session over the sample in which the steps that these words say are played. Behind the word
-/// `three` it has at most three states.
+/// Creates a session over the sample, in which the steps that the given words say are played. After
+/// the word `three` it has at most three states.
 pub fn session_after(alloc: Global, words: &str) -> Result<Session, Fail>
     ensures { IfOk result (λ session. session.begun ≡ false) }
 {

@@ -15,7 +15,7 @@ use std::alloc::Global;
 /// than any change here asks for.
 const TURNS: u32 = 10_000;
 
-/// What a change comes to by so many workers, from 1 to 64, or nothing where a
+/// Carries a change out by so many workers, from 1 to 64, and returns its end. Returns none if a
 /// call was refused that may not be.
 pub fn carry_out(
     alloc: Global,
@@ -45,7 +45,7 @@ fn finish_of(draw: &mut Draw, mut run: Run, change: &Change, workers: u16) -> Op
     }
 }
 
-/// A run from some services to others, or nothing where some of these lack what they need.
+/// Opens a run from some services to others. Returns none if some of these lack what they need.
 pub fn run_between(
     alloc: Global,
     graph: &Graph,
@@ -88,8 +88,8 @@ fn open_between(
     }
 }
 
-/// In each turn a drawn worker ends what it holds, or stops the run, or asks for a job. False: a
-/// call was refused.
+/// Lets a drawn worker act in each turn: it ends what it holds, stops the run, or asks for a job.
+/// Returns false if a call was refused.
 fn work(draw: &mut Draw, run: &mut Run, change: &Change, workers: u16) -> bool {
     let mut held: [Option<u16>; 64] = [None; 64];
     let mut deadline = change.deadline;
@@ -131,7 +131,8 @@ fn outcome_of(fails: &[u16], service: u16) -> Outcome {
     }
 }
 
-/// Takes one service after the other, and ends it well. Whether nothing is left to do then.
+/// Takes one service after the other, and ends each with success. Returns true if nothing is left
+/// to do then.
 pub fn settles(run: &mut Run) -> bool
     ensures course { run.new.course ≡ run.old.course }
     ensures settled { result ≡ true → IsSettled run.new.course run.new.events }
@@ -144,7 +145,7 @@ pub fn settles(run: &mut Run) -> bool
     run.settled()
 }
 
-/// Takes a service and ends it well. Whether there was one.
+/// Takes a service and ends it with success. Returns true if there was one.
 fn go_on(run: &mut Run) -> bool
     ensures { run.new.course ≡ run.old.course }
 {

@@ -11,7 +11,7 @@ const MAX_STEPS: usize = 20;
 /// The most bundles in bundles that are looked into.
 const MAX_DEPTH: usize = 4;
 
-/// Adds where an entry gives a name that is nobody's: both stand after the refusal's word.
+/// Adds where an entry gives a name that nothing has. Both names stand after the refusal's word.
 pub(crate) fn add_unknown(search: &mut Search<'_>, names: &str) {
     let Some((name, other)) = names.split_once(' ') else {
         return;
@@ -30,8 +30,8 @@ pub(crate) fn add_unknown(search: &mut Search<'_>, names: &str) {
     drop(names);
 }
 
-/// Adds where an entry gives a name, in a file, by its line, or in a
-/// folder, and says whether it does.
+/// Adds where an entry gives a name: the line of a file, or the path in a folder. Returns true if
+/// it gives the name.
 fn add_place(search: &mut Search<'_>, entry: &Entry<'_, '_>, name: &str) -> bool {
     if matches!(&entry.kind, Some(Kind::Bundle)) {
         return add_line(search, entry, "contents", name)
@@ -43,7 +43,7 @@ fn add_place(search: &mut Search<'_>, entry: &Entry<'_, '_>, name: &str) -> bool
         || add_in(search, entry, "dependencies.d", name)
 }
 
-/// Adds the line in which a file of an entry gives a name, and says whether it does.
+/// Adds the line in which a file of an entry gives a name. Returns true if there is one.
 fn add_line(search: &mut Search<'_>, entry: &Entry<'_, '_>, file: &str, name: &str) -> bool {
     match search.line_of(entry, file, name) {
         Some(number) => {
@@ -55,7 +55,7 @@ fn add_line(search: &mut Search<'_>, entry: &Entry<'_, '_>, file: &str, name: &s
     }
 }
 
-/// Adds the path of a name in a folder of an entry, and says whether it stands there.
+/// Adds the path of a name in a folder of an entry. Returns true if the name stands there.
 fn add_in(search: &mut Search<'_>, entry: &Entry<'_, '_>, folder: &str, name: &str) -> bool {
     let folder = search.said.file_path(entry, folder);
     let path = search.said.path(folder.as_str(), name);
@@ -85,7 +85,7 @@ pub(crate) fn add_circle(search: &mut Search<'_>, names: &str) {
     add_step(search, from, first_word(names));
 }
 
-/// Adds what makes one of a circle need, or hold, the next, on a line of its own.
+/// Adds a line that says why one name of a circle needs, or holds, the next.
 fn add_step(search: &mut Search<'_>, from: &str, to: &str) {
     let Some(entry) = search.entry(from) else {
         return;
@@ -108,7 +108,7 @@ fn add_holder(search: &mut Search<'_>, entry: &Entry<'_, '_>, to: &str) {
     drop(list);
 }
 
-/// Adds the number of a line, and the bundle that it names, where it is known.
+/// Adds the number of a line and the bundle that it names, if they are known.
 fn add_bundle(said: &mut Said, holder: Option<(usize, &str)>) {
     match holder {
         Some((number, bundle)) => {
@@ -119,8 +119,8 @@ fn add_bundle(said: &mut Said, holder: Option<(usize, &str)>) {
     }
 }
 
-/// The first name of a list that is a bundle's which holds a service, through so many bundles in
-/// bundles at most, and the number of its line.
+/// Returns the first name in a list whose bundle holds a service, and the number of its line. Looks
+/// through at most `depth` levels of bundles.
 fn holder_of<'l>(
     search: &mut Search<'_>,
     list: &'l str,
@@ -146,7 +146,8 @@ fn holder_of<'l>(
     None
 }
 
-/// What the file `contents` of a bundle holds; nothing where a name is none of a bundle.
+/// Returns the bytes of the file `contents` of a bundle, or none if the name is not that of a
+/// bundle.
 fn contents_of(search: &mut Search<'_>, name: &str) -> Vec<u8> {
     match search.entry(name) {
         Some(entry) if matches!(&entry.kind, Some(Kind::Bundle)) => search.file(&entry, "contents"),

@@ -18,14 +18,14 @@ impl<'a> Sources<'a> {
         Sources { rt, alloc, roots }
     }
 
-    /// A search in them, of which nothing is said yet.
+    /// Creates a search in the source directories that has said nothing yet.
     pub(crate) fn search(&self) -> Search<'a> {
         Search::new(self.rt, self.alloc, self.roots)
     }
 }
 
-/// A directory in a source directory. That is given as it was named,
-/// and without a slash at its end.
+/// A directory in a source directory. The source directory is given both as it was named and
+/// without a slash at its end.
 #[derive(Clone, Copy)]
 pub(crate) struct Entry<'a, 'n> {
     pub named: &'a str,
@@ -35,7 +35,8 @@ pub(crate) struct Entry<'a, 'n> {
 }
 
 impl Entry<'_, '_> {
-    /// The files that count for it, beside `type`, in the order in which they are read.
+    /// Returns the files that count for the entry, beside `type`, in the order in which they are
+    /// read.
     pub(crate) fn files(&self) -> &'static [(&'static str, Holds)] {
         match self.kind {
             Some(kind) => files_of_kind(kind),
@@ -43,7 +44,8 @@ impl Entry<'_, '_> {
         }
     }
 
-    /// Whether a file of this name, or a folder, is read; or is a flag that it may have.
+    /// Returns true if a file or a folder of this name is read, or is a flag that the entry may
+    /// have.
     pub(crate) fn reads(&self, file: &str) -> bool {
         if matches!(file, "type") {
             return true;
@@ -57,7 +59,7 @@ impl Entry<'_, '_> {
     }
 }
 
-/// The kind that the bytes of a file `type` give, where they give one.
+/// Returns the kind that the bytes of a file `type` give, if they give one.
 pub(crate) fn kind_of(bytes: &[u8]) -> Option<Kind> {
     match without_end(text_of(bytes), '\n') {
         "oneshot" => Some(Kind::Oneshot),
@@ -67,12 +69,12 @@ pub(crate) fn kind_of(bytes: &[u8]) -> Option<Kind> {
     }
 }
 
-/// A directory's path without a slash at its end.
+/// Returns the path of a directory without a slash at its end.
 pub(crate) fn without_slash(path: &str) -> &str {
     without_end(path, '/')
 }
 
-/// A text without this at its end.
+/// Returns a text without the given character at its end.
 pub(crate) fn without_end(text: &str, end: char) -> &str {
     match text.strip_suffix(end) {
         Some(front) => front,

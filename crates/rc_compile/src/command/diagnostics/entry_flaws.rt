@@ -5,8 +5,8 @@ use crate::command::diagnostics::listed::{name_at, text_of};
 use crate::command::diagnostics::search::{Found, Search};
 use crate::command::diagnostics::slips::nearest;
 
-/// Adds where a text stands that is no name: the entry's own, in its lists, in its folder, or as
-/// the second of a file that holds one.
+/// Adds where an entry has a wrong name: its own, one in its lists or in its folder, or a second
+/// one in a file that holds one.
 pub(crate) fn add_bad_name(search: &mut Search<'_>, entry: &Entry<'_, '_>) {
     if let Some(wrong) = search.said.wrong(entry.name) {
         let path = search.said.path(entry.root, entry.name);
@@ -53,7 +53,7 @@ pub(crate) fn add_twice(search: &mut Search<'_>, entry: &Entry<'_, '_>) {
     }
 }
 
-/// Adds what an entry has in place of a file `type`.
+/// Adds what an entry has instead of a file `type`.
 pub(crate) fn add_no_type(search: &mut Search<'_>, entry: &Entry<'_, '_>) {
     if add_mistaken(search, entry.named) {
         return;
@@ -72,8 +72,8 @@ pub(crate) fn add_no_type(search: &mut Search<'_>, entry: &Entry<'_, '_>) {
     drop(files);
 }
 
-/// Adds that a source directory looks like an entry, where it has a file `type` of its
-/// own, and says whether it does.
+/// Adds that a source directory looks like an entry, if it has a file `type` of its own. Returns
+/// true if it has one.
 pub(crate) fn add_mistaken(search: &mut Search<'_>, root: &str) -> bool {
     match search.found(without_slash(root), "type") {
         Found::File(_) => {

@@ -8,8 +8,8 @@ use rc_source::Holds;
 use std::fs::{self, Files};
 use std::io::{self, ErrorKind};
 
-/// Adds the first file of an entry that is not what it is to be, as the refusal's word says.
-/// Folders of names come last.
+/// Adds what is wrong with the first wrong file of an entry, as the refusal's word says. Folders of
+/// names come last.
 pub(crate) fn add_flaw(search: &mut Search<'_>, entry: &Entry<'_, '_>, word: &str) {
     add_flaw_in(search, entry, "type", Holds::KindWord, word);
     for (file, holds) in entry.files() {
@@ -24,7 +24,7 @@ pub(crate) fn add_flaw(search: &mut Search<'_>, entry: &Entry<'_, '_>, word: &st
     }
 }
 
-/// Adds what is wrong with a file of an entry, if nothing was added yet and something is.
+/// Adds what is wrong with a file of an entry, if something is and nothing was added yet.
 fn add_flaw_in(
     search: &mut Search<'_>,
     entry: &Entry<'_, '_>,
@@ -55,7 +55,7 @@ fn add_flaw_of(search: &mut Search<'_>, path: &str, holds: Holds, word: &str) {
     }
 }
 
-/// Adds why something can't be read, if it can't. What is missing is no fault.
+/// Adds why a file or a folder can't be read, if it can't. A missing one is no fault.
 fn add_unread(search: &mut Search<'_>, path: &str, is_folder: bool) {
     let found = search.at(path);
     let why = match found {
@@ -75,7 +75,7 @@ fn add_unread(search: &mut Search<'_>, path: &str, is_folder: bool) {
     search.said.add_row(path, ": ", why);
 }
 
-/// How a file, or a folder, refuses to be opened.
+/// Returns the error of opening a file or a folder, or None if it can be opened.
 fn opened(search: &mut Search<'_>, path: &str, is_folder: bool) -> Option<ErrorKind> {
     match open(search.rt, path, is_folder) {
         Ok(()) => None,
@@ -105,7 +105,7 @@ fn add_too_long(search: &mut Search<'_>, path: &str) {
     }
 }
 
-/// Adds the first name in a folder of names that is none.
+/// Adds the first name in a folder of names that is not a valid name.
 fn add_bad_listing(search: &mut Search<'_>, path: &str) {
     let mut names = Vec::new(search.said.alloc);
     search.add_names(path, false, &mut names);
@@ -140,8 +140,8 @@ fn add_wrong_text(said: &mut Said, path: &str, holds: Holds, word: &str, bytes: 
     }
 }
 
-/// What may stand in a file of one line, where the refusal's word tells of one, and something else
-/// does.
+/// Returns the words for what may stand in a file of one line, or None if the refusal's word is not
+/// about this file. For a limit, also returns None if the text is one.
 fn due_in(holds: Holds, word: &str, text: &str) -> Option<&'static str> {
     match word {
         "BadType" if holds == Holds::KindWord => {
@@ -154,7 +154,7 @@ fn due_in(holds: Holds, word: &str, text: &str) -> Option<&'static str> {
     }
 }
 
-/// Adds the first line of a list that gives something else than a name.
+/// Adds the first line of a list that gives something other than a name.
 fn add_bad_line(said: &mut Said, path: &str, list: &str) {
     let mut number = 0usize;
     for line in list.split('\n') {
@@ -183,13 +183,13 @@ fn add_line(said: &mut Said, path: &str, due: &str, text: &str) {
     }
 }
 
-/// Whether a text is a limit, with or without a newline at its end.
+/// Returns true if a text is a limit, with or without a newline at its end.
 fn is_limit(text: &str) -> bool {
     let digits = without_end(text, '\n');
     digits.len() <= 10 && !digits.starts_with('+') && digits.parse::<u32>().is_ok()
 }
 
-/// Adds the line of the first byte that makes bytes no text, and what it is.
+/// Adds the line of the first byte that makes bytes no text, and what is wrong with the byte.
 fn add_bad_byte(said: &mut Said, path: &str, bytes: &[u8]) {
     let (offset, why) = match std::str::from_utf8(bytes) {
         Err(fault) => (
@@ -206,8 +206,8 @@ fn add_bad_byte(said: &mut Said, path: &str, bytes: &[u8]) {
     said.add(why);
 }
 
-/// Adds which source directory can't be listed, and why: it can't be opened, or has a name that is
-/// not UTF-8.
+/// Adds the source directory that can't be listed, and why: it can't be opened, or has a name that
+/// is not UTF-8.
 pub(crate) fn add_root(search: &mut Search<'_>) {
     for root in search.roots {
         let root = root.as_str();
@@ -226,7 +226,7 @@ pub(crate) fn add_root(search: &mut Search<'_>) {
 /// What is said of an error that has no word of its own.
 const UNREADABLE: &str = "can't be read or written";
 
-/// The word for an error, of those that are met most often.
+/// Returns the word for an error, if the error is one of those that are met most often.
 pub fn word_of(kind: ErrorKind) -> Option<&'static str> {
     match kind {
         ErrorKind::NotFound => Some("no such file or directory"),

@@ -22,7 +22,7 @@ const LONG: &str = "a name has at most 255 bytes";
 
 const RESERVED: &str = "names that begin with 's6rc-' are reserved";
 
-/// What is wrong with a text that is to be a name; nothing where it is one.
+/// Returns the flaw of a text that is to be a name, or None if it is one.
 pub fn wrong_name(alloc: Global, text: &[u8]) -> Result<Option<WrongName>, NoMem>
     ensures wrong { IfOk result (λ wrong. IfSome wrong (λ _. IsName text.now → ⊥)) }
     ensures right { IfOk result (λ wrong. IfNone wrong (IsName text.now)) }
@@ -40,7 +40,7 @@ pub fn wrong_name(alloc: Global, text: &[u8]) -> Result<Option<WrongName>, NoMem
     }
 }
 
-// The byte that may not stand where it does.
+// Returns the flaw of a text with a byte that may not stand where it does.
 fn wrong_byte(text: &[u8]) -> WrongName {
     match text.first() {
         Some(b'-') => return WrongName::Said("a name can't begin with '-'"),
@@ -56,7 +56,7 @@ fn wrong_byte(text: &[u8]) -> WrongName {
     WrongName::Said(NO_TEXT)
 }
 
-// That a name holds this byte.
+// Returns the flaw of a name that holds this byte.
 fn held(byte: u8) -> WrongName {
     match byte {
         b'\r' => WrongName::Said("a name can't hold byte 13 (a Windows line end?)"),

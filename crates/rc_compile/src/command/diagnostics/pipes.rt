@@ -40,7 +40,7 @@ fn add_unfit(search: &mut Search<'_>, entry: &Entry<'_, '_>, file: &str, back: &
     drop(list);
 }
 
-/// The first neighbour in a list that does not fit.
+/// Returns the first neighbour in a list that does not fit.
 fn unfit_in<'a, 'l>(
     search: &mut Search<'a>,
     entry: &Entry<'_, '_>,
@@ -57,8 +57,8 @@ fn unfit_in<'a, 'l>(
     None
 }
 
-/// Whether a neighbour is a longrun, where it is asked for its type, or else names
-/// an entry in a file of its own.
+/// Returns true if a neighbour fits. If `back` is `type`, it must be a longrun. Otherwise its file
+/// `back` must name the entry.
 fn fits(search: &mut Search<'_>, entry: &Entry<'_, '_>, other: &Entry<'_, '_>, back: &str) -> bool {
     if matches!(back, "type") {
         return matches!(&other.kind, Some(Kind::Longrun));
@@ -66,7 +66,7 @@ fn fits(search: &mut Search<'_>, entry: &Entry<'_, '_>, other: &Entry<'_, '_>, b
     search.line_of(other, back, entry.name).is_some()
 }
 
-/// Adds whose name a pipeline's bundle has.
+/// Adds which entry has the name of a pipeline's bundle, or that another pipeline has it.
 pub(crate) fn add_taken(search: &mut Search<'_>, entry: &Entry<'_, '_>) {
     let list = search.file(entry, "pipeline-name");
     if let Some((_, name)) = name_at(text_of(&list), 0) {

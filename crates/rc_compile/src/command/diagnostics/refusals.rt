@@ -4,7 +4,7 @@ use crate::command::diagnostics::said::Hint;
 use crate::command::diagnostics::search::Search;
 use crate::command::diagnostics::{chains, entry_flaws, file_flaws, pipes};
 
-/// What helps after what `compile` told: the refusal's word and the names after it.
+/// Returns the hint for a refusal that `compile` reported, given its word and the names after it.
 pub fn compile_hint(sources: &Sources<'_>, word: &str, names: &str) -> Hint {
     let mut search = sources.search();
     match word {
@@ -20,7 +20,7 @@ pub fn compile_hint(sources: &Sources<'_>, word: &str, names: &str) -> Hint {
     search.said.hint()
 }
 
-/// Adds what helps after a refusal of an entry.
+/// Adds the hint for a refusal of an entry.
 fn add_of_entry(search: &mut Search<'_>, entry: &Entry<'_, '_>, word: &str) {
     match word {
         "BadName" => entry_flaws::add_bad_name(search, entry),

@@ -1,5 +1,5 @@
-//! A text that is put together of pieces. Where memory is short for one, that is kept, and told in
-//! the end.
+//! A text that is put together from pieces. If memory is short for a piece, that is noted, and
+//! reported at the end.
 use crate::command::diagnostics::entries::Entry;
 use crate::command::diagnostics::name_flaws::{WrongName, wrong_name};
 use rc_names::NoMem;
@@ -7,7 +7,7 @@ use rc_streams::escaping::Shown;
 use std::alloc::{AllocError, Global};
 use std::io::{self, ErrorKind};
 
-/// What may help after a fault, or nothing; only memory can be short.
+/// What may help after a fault, or None. The only error is that memory is short.
 pub type Hint = Result<Option<String>, NoMem>;
 
 /// What was said so far, and whether memory was short for any of it.
@@ -19,7 +19,7 @@ pub struct Said {
 }
 
 impl Said {
-    /// Nothing is said yet.
+    /// Creates an empty text.
     pub fn new(alloc: Global) -> Said {
         Said {
             alloc,
@@ -28,7 +28,7 @@ impl Said {
         }
     }
 
-    /// What was said, if anything was.
+    /// Returns the text, if anything was said. Fails if memory was short for any of it.
     pub fn hint(self) -> Hint {
         if self.is_short {
             return Err(AllocError);
@@ -39,12 +39,12 @@ impl Said {
         Ok(Some(self.text))
     }
 
-    /// Whether nothing was said.
+    /// Returns true if nothing was said.
     pub(crate) fn is_empty(&self) -> bool {
         self.text.is_empty()
     }
 
-    /// Ends the line that was said, if one was, so that another begins.
+    /// Ends the current line, if there is one, so that another begins.
     pub(crate) fn begin_line(&mut self) {
         if !self.text.is_empty() {
             let added = self.text.push('\n');
@@ -52,7 +52,7 @@ impl Said {
         }
     }
 
-    /// Adds a text, with its control characters as escapes: it begins no line.
+    /// Adds a text, with its control characters as escapes, so that it begins no line.
     pub fn add(&mut self, text: &str) {
         let added = write!(self.text, "{}", Shown(&text));
         self.note(added);
@@ -84,8 +84,7 @@ impl Said {
         self.note(added);
     }
 
-    /// Adds the bytes of a name: those that are no ASCII characters of text as escapes, such as
-    /// `\xff`.
+    /// Adds the bytes of a name. Bytes other than printable ASCII become escapes, such as `\xff`.
     pub(crate) fn add_bytes(&mut self, bytes: &[u8]) {
         for byte in bytes {
             let byte = *byte;
@@ -109,7 +108,7 @@ impl Said {
         }
     }
 
-    /// What is wrong with a name, if it is none.
+    /// Returns the flaw of a name, if it has one. Notes whether memory was short.
     pub(crate) fn wrong(&mut self, name: &str) -> Option<WrongName> {
         match wrong_name(self.alloc, name.as_bytes()) {
             Ok(wrong) => wrong,
@@ -134,7 +133,7 @@ impl Said {
         }
     }
 
-    /// The path of what has a name in a directory; that is given without a slash at its end.
+    /// Returns the path of a name in a directory, which is given without a slash at its end.
     pub(crate) fn path(&mut self, directory: &str, name: &str) -> String {
         let mut path = String::new(self.alloc);
         let front = path.push_str(directory);
@@ -146,7 +145,7 @@ impl Said {
         path
     }
 
-    /// The path of a file of an entry.
+    /// Returns the path of a file of an entry.
     pub(crate) fn file_path(&mut self, entry: &Entry<'_, '_>, file: &str) -> String {
         let directory = self.path(entry.root, entry.name);
         let path = self.path(directory.as_str(), file);

@@ -1,4 +1,4 @@
-//! A search in source directories: what is read again, and what is told of it.
+//! A search in source directories: what is read again, and what is said of it.
 use crate::command::diagnostics::entries::{Entry, kind_of, without_slash};
 use crate::command::diagnostics::listed::{line_of, text_of};
 use crate::command::diagnostics::places::cut_at;
@@ -28,13 +28,13 @@ pub(crate) struct Search<'a> {
 pub(crate) enum Found {
     Nothing,
     Directory,
-    /// A plain file, of so many bytes.
+    /// A plain file, with its length in bytes.
     File(u64),
     Other,
 }
 
 impl<'a> Search<'a> {
-    /// Nothing is said yet.
+    /// Creates a search that has said nothing yet.
     pub(crate) fn new(rt: &'a HostRuntime, alloc: Global, roots: &'a [String]) -> Search<'a> {
         Search {
             rt,
@@ -43,7 +43,7 @@ impl<'a> Search<'a> {
         }
     }
 
-    /// What stands at a path.
+    /// Looks up what stands at a path.
     pub(crate) fn at(&mut self, path: &str) -> Found {
         match self.rt.metadata(path) {
             Ok(found) if found.is_dir() => Found::Directory,
@@ -56,7 +56,7 @@ impl<'a> Search<'a> {
         }
     }
 
-    /// What of this name stands in a directory.
+    /// Looks up what stands under a name in a directory.
     pub(crate) fn found(&mut self, directory: &str, name: &str) -> Found {
         let path = self.said.path(directory, name);
         let found = self.at(path.as_str());
@@ -64,7 +64,8 @@ impl<'a> Search<'a> {
         found
     }
 
-    /// The entry of this name, in the first source directory that has it. No entry has no name.
+    /// Returns the entry of this name, in the first source directory that has it. No entry has an
+    /// empty name.
     pub(crate) fn entry<'n>(&mut self, name: &'n str) -> Option<Entry<'a, 'n>> {
         if name.is_empty() {
             return None;
@@ -88,7 +89,7 @@ impl<'a> Search<'a> {
         None
     }
 
-    /// The bytes of a file of an entry; none where they can't be read.
+    /// Returns the bytes of a file of an entry, or none if they can't be read.
     pub(crate) fn file(&mut self, entry: &Entry<'_, '_>, file: &str) -> Vec<u8> {
         let path = self.said.file_path(entry, file);
         let bytes = self.bytes(path.as_str());
@@ -99,7 +100,7 @@ impl<'a> Search<'a> {
         }
     }
 
-    /// Whether somebody may run a file of an entry.
+    /// Returns true if somebody may run a file of an entry.
     pub(crate) fn is_executable(&mut self, entry: &Entry<'_, '_>, file: &str) -> bool {
         let path = self.said.file_path(entry, file);
         let found = self.rt.metadata(path.as_str());
@@ -113,7 +114,7 @@ impl<'a> Search<'a> {
         }
     }
 
-    /// The bytes of a plain file, where they can be read and are not too many.
+    /// Returns the bytes of a plain file, if they can be read and are not too many.
     pub(crate) fn bytes(&mut self, path: &str) -> Option<Vec<u8>> {
         match self.at(path) {
             Found::File(_) => {}
@@ -130,7 +131,7 @@ impl<'a> Search<'a> {
         }
     }
 
-    /// The number of the line in which a file of an entry gives a name.
+    /// Returns the number of the line in which a file of an entry gives a name.
     pub(crate) fn line_of(
         &mut self,
         entry: &Entry<'_, '_>,
@@ -143,7 +144,7 @@ impl<'a> Search<'a> {
         number
     }
 
-    /// The names of all entries, as far as they can be read.
+    /// Returns the names of all entries, as far as they can be read.
     pub(crate) fn entries(&mut self) -> Vec<String> {
         let mut names = Vec::new(self.said.alloc);
         for root in self.roots {
@@ -152,7 +153,7 @@ impl<'a> Search<'a> {
         names
     }
 
-    /// Adds the names in a directory, as far as they can be read, or of the entries alone.
+    /// Adds the names in a directory, or only those of entries, as far as they can be read.
     pub(crate) fn add_names(
         &mut self,
         directory: &str,
@@ -169,7 +170,7 @@ impl<'a> Search<'a> {
         drop(bytes);
     }
 
-    /// Whether a directory has an entry. Names are looked at up to the first one.
+    /// Returns true if a directory has an entry. Looks at names up to the first entry.
     pub(crate) fn has_entry(&mut self, directory: &str) -> bool {
         let path = self.said.path(directory, "");
         let mut listing = Vec::new(self.said.alloc);
@@ -182,7 +183,7 @@ impl<'a> Search<'a> {
         has_entry
     }
 
-    /// Whether a listing gives the name of an entry of a directory.
+    /// Returns true if a listing gives the name of an entry of a directory.
     fn is_entry_listed(&mut self, directory: &str, listing: &[u8]) -> bool {
         for name in listing.split(|byte| *byte == 0) {
             let name = text_of(name);
@@ -193,8 +194,7 @@ impl<'a> Search<'a> {
         false
     }
 
-    /// Adds the first name in a directory that is not UTF-8, if there is one, and returns whether
-    /// there is.
+    /// Adds the first name in a directory that is not UTF-8. Returns true if there is one.
     pub(crate) fn add_unread_name(&mut self, directory: &str) -> bool {
         let path = self.said.path(directory, "");
         let mut listing = Vec::new(self.said.alloc);
@@ -207,14 +207,14 @@ impl<'a> Search<'a> {
         is_there
     }
 
-    /// Adds the names of what an entry has.
+    /// Adds the names in the directory of an entry.
     pub(crate) fn add_files(&mut self, entry: &Entry<'_, '_>, names: &mut Vec<String>) {
         let path = self.said.path(entry.root, entry.name);
         self.add_names(path.as_str(), false, names);
         drop(path);
     }
 
-    /// Adds the names that a listing gives, each with a byte 0 after it.
+    /// Adds the names in a listing, where a byte 0 follows each name.
     fn add_listed(
         &mut self,
         directory: &str,
@@ -234,7 +234,7 @@ impl<'a> Search<'a> {
         }
     }
 
-    /// Whether a directory stands there, and is not hidden.
+    /// Returns true if a name in a directory is that of a directory and is not hidden.
     fn is_shown(&mut self, directory: &str, name: &str) -> bool {
         if name.starts_with('.') {
             return false;
@@ -243,20 +243,19 @@ impl<'a> Search<'a> {
     }
 }
 
-/// Adds the bytes of a file, of one that is too long only some.
+/// Appends the bytes of a file, or only some of them if it is too long.
 fn read_file(rt: &HostRuntime, path: &str, bytes: &mut Vec<u8>) -> io::Result<usize> {
     let file = fs::open(rt, path)?;
     file.take(MAX_FILE as u64 + 1).read_to_end(bytes)
 }
 
-/// Adds the names in a directory, each with a byte 0 after it.
+/// Appends the names in a directory, each followed by a byte 0.
 fn read_folder(rt: &HostRuntime, path: &str, bytes: &mut Vec<u8>) -> io::Result<usize> {
     let mut listing = rt.open_dir(path)?;
     listing.read_to_end(bytes)
 }
 
-/// Adds the path of the first name of a listing that is not UTF-8, if there is one, and returns
-/// whether there is.
+/// Adds the path of the first name of a listing that is not UTF-8. Returns true if there is one.
 fn add_bad_name(said: &mut Said, directory: &str, listing: &[u8]) -> bool {
     for name in listing.split(|byte| *byte == 0) {
         if std::str::from_utf8(name).is_err() {
@@ -269,7 +268,7 @@ fn add_bad_name(said: &mut Said, directory: &str, listing: &[u8]) -> bool {
     false
 }
 
-/// Adds a name, but for those of a directory itself and of the one above it.
+/// Adds a name, unless it is that of a directory itself or of the one above it.
 fn push_name(alloc: Global, name: &str, names: &mut Vec<String>) -> Result<(), NoMem> {
     if matches!(name, "." | "..") {
         return Ok(());

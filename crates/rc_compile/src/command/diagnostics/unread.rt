@@ -33,7 +33,7 @@ const SUPERVISED: [&str; 22] = [
     "template",
 ];
 
-/// A note about a source directory that has no entry, and looks like one itself.
+/// Returns a note about a source directory that has no entry and looks like one itself.
 pub fn looks_like_entry(sources: &Sources<'_>) -> Hint {
     let mut search = sources.search();
     for root in search.roots {
@@ -45,9 +45,9 @@ pub fn looks_like_entry(sources: &Sources<'_>) -> Hint {
     search.said.hint()
 }
 
-/// Notes about the entries: which files are not looked at, which texts have a carriage return,
-/// which ends of pipelines get no pipe, and which bundles have no contents. Each but the first
-/// stands on a line of its own, behind the word `undorc: `.
+/// Returns notes about the entries: which files are not looked at, which texts have a carriage
+/// return, which ends of pipelines get no pipe, and which bundles have no contents. Each note
+/// stands on a line of its own.
 pub fn unread_files(sources: &Sources<'_>) -> Hint {
     let mut search = sources.search();
     add_all(&mut search);
@@ -112,7 +112,7 @@ fn add_note(search: &mut Search<'_>, entry: &Entry<'_, '_>, file: &str) {
     }
 }
 
-/// Adds the note about an end of a pipeline that gets no pipe: its `run` opens the pipe, and is not
+/// Adds a note about an end of a pipeline that gets no pipe: its `run` opens the pipe, and is not
 /// executable.
 fn add_unjoined(search: &mut Search<'_>, entry: &Entry<'_, '_>, file: &str) {
     let list = search.file(entry, file);
