@@ -11,8 +11,8 @@ use std::marker::Model;
 pub struct Service {
     /// A oneshot or a longrun.
     pub kind: Kind,
-    /// Whether it stays up where a change downwards or a pruning one would
-    /// lower it, also where it is named.
+    /// Whether it stays up where a change of mode `Down` or a pruning one would lower it, even if
+    /// it is named.
     pub essential: bool,
     /// How long it may take to come up, in milliseconds; 0 is no limit.
     pub limit_up: u32,

@@ -25,7 +25,7 @@ pub enum SessionFault<'a> {
     /// The database text is none.
     #[error(transparent)]
     OfText(TextFault),
-    /// This name is to fail, and is no service's.
+    /// This name stands in `-x` or in a conversion, and no service has it.
     #[error("no service is named {}", .0.escape_ascii())]
     Unknown(&'a [u8]),
     /// The file's text is none of a session on the database.
