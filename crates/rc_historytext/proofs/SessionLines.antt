@@ -1,7 +1,6 @@
 -- The lines of a session, as they are written.
 use Rattle.std.proofs.Common.{◌≡◌, ◌∙◌, ℕ, List, [], ◌∷◌, ◌++◌, ap, sym, append_assoc}
 use Rattle.std.proofs.lemmas.List.{append-nil}
-use Rattle.std.specs.List.{flat_map}
 use Rattle.rc_dbtext.specs.Words.{line_of_words}
 use Rattle.rc_dbtext.specs.Lines.{words_after_spaces}
 use Rattle.rc_dbtext.specs.Form.{spells}

@@ -1,5 +1,5 @@
 -- What a command makes of the text of a history.
-use Rattle.std.specs.Prelude.{◌≡◌, ◌⊎◌, ℕ, Bool, true, false, List, if◌then◌else◌}
+use Rattle.std.specs.Prelude.{◌≡◌, ◌⊎◌, ℕ, Bool, List, if◌then◌else◌}
 use Rattle.rc_historytext.specs.declared.keeping.Keeping.{Keeping}
 use Rattle.rc_historytext.specs.declared.keeping.Keeping.TheVariants.{Command, Way, Step, Seal}
 use Rattle.rc_historytext.specs.declared.marks.Marks.{Marks}

@@ -10,7 +10,7 @@ ghost use Rattle.rc_historytext.specs.Keeping.{PutsInto, StandsThere};
 ghost use Rattle.rc_historytext.specs.Keeping.{cut_earlier, cut_later, left_by};
 
 use crate::fault::HistoryFault;
-use crate::forms::{GenerationForm, HistoryForm};
+use crate::forms::HistoryForm;
 use crate::marks::{Marks, marks_of};
 use crate::read::read_history;
 use crate::session_text::cut_session;

@@ -1,4 +1,3 @@
-use Rattle.std.proofs.Common.{rules}
 use Rattle.rc_historytext.proofs.keeping.put_marked.Goals as goal
 
 pub cut_later-requires : goal.cut_later-requires

@@ -1,4 +1,4 @@
-use Rattle.std.proofs.Common.{◌≡◌, ◌∙◌, inr, sym}
+use Rattle.std.proofs.Common.{◌∙◌, inr, sym}
 use Rattle.std.proofs.lemmas.Bool.{false≢true}
 use Rattle.std.proofs.lemmas.Result.{IfOk-weaker}
 use Rattle.rc_historytext.proofs.keeping.put_once.Goals as goal

@@ -1,5 +1,5 @@
 use Rattle.rc_livetext.specs.Text.{First, OfBound, OfServices}
-use Rattle.std.proofs.Common.{true, rules}
+use Rattle.std.proofs.Common.{true}
 use Rattle.rc_historytext.proofs.SessionLines.{three_lines}
 use Rattle.rc_historytext.proofs.session_text.push_bounded.Goals as goal
 

@@ -1,5 +1,5 @@
 use Rattle.rc_livetext.specs.Text.{First, OfServices}
-use Rattle.std.proofs.Common.{false, rules}
+use Rattle.std.proofs.Common.{false}
 use Rattle.rc_historytext.proofs.SessionLines.{two_lines}
 use Rattle.rc_historytext.proofs.session_text.push_unbounded.Goals as goal
 
