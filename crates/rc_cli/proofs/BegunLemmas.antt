@@ -1,7 +1,7 @@
--- The line of the first step of an update in a log, and that there is no other.
+-- The first line of a log, and that there is no other.
 use Rattle.std.proofs.Common.{◌≡◌, ◌≢◌, ◌∙◌, ◌++◌, ◌∷◌, ◌==◌, ◌↔◌, ℕ, suc, All, Bool}
 use Rattle.std.proofs.Common.{false, List, [], IsTrue, Contains, Some, refl, sym, ap, subst, arith}
-use Rattle.std.proofs.Common.{append_assoc}
+use Rattle.std.proofs.Common.{append_assoc, inl, inr, ◌⊎◌}
 use Rattle.std.specs.List.{AllByRecursion, slice_split}
 use Rattle.std.proofs.lemmas.Bool.{ne_eqb}
 use Rattle.std.proofs.lemmas.List.{append_cancel_left}
@@ -10,7 +10,7 @@ use Rattle.std.proofs.lemmas.List.Splits.{slice_split_at}
 use Rattle.rc_model.specs.Names.{Has}
 use Rattle.rc_model.specs.Database.{Database, IsDatabase}
 use Rattle.rc_model.specs.Line.{Line}
-use Rattle.rc_model.specs.Session.{Command, IsLineOf}
+use Rattle.rc_model.specs.Session.{Command, IsLineOf, Redo, Undo}
 use Rattle.rc_model.proofs.ByteOrder.{same_names}
 use Rattle.rc_dbtext.specs.Base.{Spells}
 use Rattle.rc_livetext.specs.Spelling.{Spells as SpellsLine}
@@ -19,7 +19,9 @@ use Rattle.rc_db.specs.Database.{IsWritable}
 use Rattle.rc_script.specs.Says.{Saying, SaysStep, Says}
 use Rattle.rc_update.specs.Carrying.{AreNamesOf, IsAlteredUp}
 use Rattle.rc_update.specs.Conversions.{Conversion}
-use Rattle.rc_cli.specs.Begun.{AreLowered, BeginsOn, BeginsUpdate, SaysLowering, lowering}
+use Rattle.rc_script.specs.RunLines.{least_limited}
+use Rattle.rc_cli.specs.Begun.{AreLowered, BeginsOn, BeginsUpdate, BeginsWith, SaysLowering}
+use Rattle.rc_cli.specs.Begun.{SaysWay}
 use Rattle.rc_script.specs.declared.line.SessionLine.{SessionLine}
 use Rattle.rc_script.specs.declared.line.SessionLine.TheVariants as line_says
 use Rattle.rc_script.specs.Says.{saying_of}
@@ -58,9 +60,9 @@ same_front line other rest more bare torn same =
     cc
 
 -- bytes without a newline do not begin with a line
-pub none_said : (bytes : List ℕ) (names : List (List ℕ)) → All (λ byte. byte ≢ 10) bytes
-    → SaysLowering bytes names → ⊥
-none_said bytes names plain says =
+pub none_said : (bytes : List ℕ) (command : Command) → All (λ byte. byte ≢ 10) bytes
+    → BeginsWith command bytes → ⊥
+none_said bytes command plain says =
     let line : List ℕ = says.3.0 in
     let text = says.3.1.0 in
     let whole : bytes ≡ line ++ 10 ∷ says.1 =
@@ -68,44 +70,87 @@ none_said bytes names plain says =
     bare_of bytes plain (subst (λ (b : List ℕ). Contains b 10) (sym whole)
     (Contains-append_right line (10 ∷ says.1) 10 (0, omega arith, refl)))
 
--- what the first line says is the step that lowers these names, where that is there
-pub said_once : (bytes line rest : List ℕ) (names : List (List ℕ)) (saying : Saying)
+-- what the first line says is the command that bytes begin with
+pub said_once : (bytes line rest : List ℕ) (command : Command) (saying : Saying)
     → ((l : List ℕ) (a b : Saying) → Says l a → Says l b → a ≡ b)
     → (bytes ≡ line ++ 10 ∷ rest) × All (λ byte. byte ≢ 10) line → Says line saying
-    → SaysLowering bytes names → saying ≡ SaysStep (lowering names)
-said_once bytes line rest names saying one cut said says =
+    → BeginsWith command bytes → saying ≡ SaysStep (least_limited command)
+said_once bytes line rest command saying one cut said says =
     let other : List ℕ = says.3.0 in
     let text = says.3.1 in
     let same : line ≡ other =
     same_front line other rest says.1 (bare_of line cut.1) text.1
     (sym cut.0 ∙ says.2 ∙ ap (λ (t : List ℕ). t ++ says.1) text.0) in
-    one line saying (SaysStep (lowering names)) said
-    (subst (λ (l : List ℕ). Says l (SaysStep (lowering names))) (sym same) says.3.2)
+    one line saying (SaysStep (least_limited command)) said
+    (subst (λ (l : List ℕ). Says l (SaysStep (least_limited command))) (sym same) says.3.2)
 
--- and where the first line says it, it is there
-pub says_it : (bytes line rest : List ℕ) (names : List (List ℕ))
+-- and they begin with it where the first line says it
+pub says_it : (bytes line rest : List ℕ) (command : Command)
     → (bytes ≡ line ++ 10 ∷ rest) × All (λ byte. byte ≢ 10) line
-    → Says line (SaysStep (lowering names)) → SaysLowering bytes names
-says_it bytes line rest names cut said = (
+    → Says line (SaysStep (least_limited command)) → BeginsWith command bytes
+says_it bytes line rest command cut said = (
   line ++ 10 ∷ [],
   rest,
   cut.0 ∙ sym (append_assoc line (10 ∷ []) rest),
   (line, (refl, bare_of line cut.1), said),
 )
 
--- a step is the one that is said, or else it is not there
-pub step_said : (bytes line rest : List ℕ) (names : List (List ℕ)) (command : Command)
+-- the command that is said is the one that was read
+read_once : (read other : Command) → SaysStep read ≡ SaysStep other → read ≡ other
+read_once read other same = cc
+
+-- a command is the one that was read, or else bytes do not begin with it
+pub step_said : (bytes line rest : List ℕ) (command read : Command)
     (answer : Bool) → ((l : List ℕ) (a b : Saying) → Says l a → Says l b → a ≡ b)
-    → (bytes ≡ line ++ 10 ∷ rest) × All (λ byte. byte ≢ 10) line → Says line (SaysStep command)
-    → (IsTrue answer ↔ (command ≡ lowering names)) → IsTrue answer ↔ SaysLowering bytes names
-step_said bytes line rest names command answer one cut said is = (
-  λ yes. says_it bytes line rest names cut
+    → (bytes ≡ line ++ 10 ∷ rest) × All (λ byte. byte ≢ 10) line → Says line (SaysStep read)
+    → (IsTrue answer ↔ (read ≡ least_limited command)) → IsTrue answer ↔ BeginsWith command bytes
+step_said bytes line rest command read answer one cut said is = (
+  λ yes. says_it bytes line rest command cut
       (subst (λ (c : Command). Says line (SaysStep c)) (is.0 yes) said),
-  λ says. is.1 (inside (said_once bytes line rest names (SaysStep command) one cut said says)),
+  λ says. is.1 (read_once read (least_limited command)
+      (said_once bytes line rest command (SaysStep read) one cut said says)),
 )
-  where
-    inside : SaysStep command ≡ SaysStep (lowering names) → command ≡ lowering names
-    inside same = cc
+
+-- the same of an undo or a redo
+pub way_said : (bytes line rest : List ℕ) (read : Command)
+    (answer : Bool) → ((l : List ℕ) (a b : Saying) → Says l a → Says l b → a ≡ b)
+    → (bytes ≡ line ++ 10 ∷ rest) × All (λ byte. byte ≢ 10) line → Says line (SaysStep read)
+    → (IsTrue answer ↔ ((read ≡ Undo 1 []) ⊎ (read ≡ Redo 1 []))) → IsTrue answer ↔ SaysWay bytes
+way_said bytes line rest read answer one cut said is = (
+  λ yes. elim (is.0 yes) [
+    | inl undo ↦ inl (says_it bytes line rest (Undo 1 []) cut
+        (subst (λ (c : Command). Says line (SaysStep c)) undo said))
+    | inr redo ↦ inr (says_it bytes line rest (Redo 1 []) cut
+        (subst (λ (c : Command). Says line (SaysStep c)) redo said))
+  ],
+  λ says. is.1 (elim says [
+    | inl undo ↦ inl (read_once read (Undo 1 [])
+        (said_once bytes line rest (Undo 1 []) (SaysStep read) one cut said undo))
+    | inr redo ↦ inr (read_once read (Redo 1 [])
+        (said_once bytes line rest (Redo 1 []) (SaysStep read) one cut said redo))
+  ]),
+)
+
+-- bytes whose first line says no command begin with no undo or redo
+pub no_way : (bytes line rest : List ℕ) (saying : Saying)
+    → ((l : List ℕ) (a b : Saying) → Says l a → Says l b → a ≡ b)
+    → (bytes ≡ line ++ 10 ∷ rest) × All (λ byte. byte ≢ 10) line → Says line saying
+    → ((command : Command) → saying ≡ SaysStep command → ⊥) → SaysWay bytes → ⊥
+no_way bytes line rest saying one cut said none says = elim says [
+  | inl undo ↦
+      none (Undo 1 []) (said_once bytes line rest (Undo 1 []) saying one cut said undo)
+  | inr redo ↦
+      none (Redo 1 []) (said_once bytes line rest (Redo 1 []) saying one cut said redo)
+]
+
+-- what stands behind the text of a session is one
+pub behind_once : (P : List ℕ → Type 0) (file log rest : List ℕ) (answer : Bool)
+    → log ≡ file ++ rest → (IsTrue answer ↔ P rest)
+    → IsTrue answer ↔ ((more : List ℕ) × (log ≡ file ++ more) × P more)
+behind_once P file log rest answer log_is says = (
+  λ yes. (rest, log_is, says.0 yes),
+  λ there. says.1 (subst P (append_cancel_left file there.0 rest (sym there.1 ∙ log_is)) there.2),
+)
 
 -- the names of services are one list
 pub one_list : (d : Database) (In : ℕ → Type 0) (xs ys : List (List ℕ)) → AreNamesOf d In xs

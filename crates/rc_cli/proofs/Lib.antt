@@ -10,8 +10,6 @@ pub mod LaunchLemmas
 mod ServingLemmas
 -- How one line is served.
 mod OnceLemmas
--- The names of what went down.
-mod RestartedLemmas
 -- A command that runs for what is asked, as it runs for the words that ask it.
 mod RunLemmas
 -- Words that name services, one by one.
@@ -30,9 +28,9 @@ mod UpdateLemmas
 mod SparingLemmas
 -- What is wanted up in the end of an update that was begun before.
 mod WantedLemmas
--- The line of the first step of an update in a log, and that there is no other.
+-- The first line of a log, and that there is no other.
 mod BegunLemmas
--- How the two steps of a restart are served.
+-- Where the undo of a restart leads.
 mod RestartLemmas
 -- Where services stand, and how that is printed.
 mod StatusLemmas

@@ -1,50 +1,45 @@
--- What the second step of a restart raises.
-use Rattle.std.proofs.Common.{◌≡◌, ◌↔◌, ◌<◌, ℕ, Bool, List, [], inl, inr, length, arith}
-use Rattle.std.proofs.lemmas.Option.{slice_get-get_or}
+-- Where the undo of a restart leads.
+use Rattle.std.proofs.Common.{◌≡◌, ◌≢◌, ◌↔◌, ◌≤◌, ◌∙◌, ℕ, Bool, List, [], ◌∷◌, ap, inl, inr}
+use Rattle.std.proofs.Common.{refl, subst, sym}
+use Rattle.rc_model.specs.Database.{Database}
+use Rattle.rc_model.specs.Headline.{TargetOfCommand}
+use Rattle.rc_model.specs.Line.{IsNext, Line, MovesByChange, State, put_last, with_live}
 use Rattle.rc_model.specs.Names.{Has}
-use Rattle.rc_model.proofs.SetMembers.{has_within}
-use Rattle.rc_model.specs.Graph.{IsClosed}
-use Rattle.rc_graph.proofs.Paths.{closed_has_up}
-use Rattle.rc_model.specs.Database.{Database, IsDatabase}
-use Rattle.rc_model.specs.Line.{Line}
-use Rattle.rc_model.specs.Plan.{IsPlanOf, IsWanted, PlanSets}
-use Rattle.rc_model.specs.declared.Mode.TheVariants.{Up}
-use Rattle.rc_model.specs.Session.{IsLineOf}
-use Rattle.rc_update.specs.Carrying.{AreNamesOf}
-use Rattle.rc_session.proofs.States.{current_state}
-use Rattle.rc_cli.specs.Restarting.{WentDown}
-use Rattle.rc_cli.specs.Steps.{step_ask}
-use Rattle.rc_cli.proofs.SparingLemmas.{wanted_back, wanted_in}
+use Rattle.rc_model.specs.Plan.{Ask}
+use Rattle.rc_model.specs.Session.{Change, Does, IsLineOf, Reported, Undo}
+use Rattle.rc_model.specs.declared.Event.{Event}
+use Rattle.rc_model.proofs.Fitting.{fitted_back}
+use Rattle.rc_session.proofs.Neighbours.{one_back}
 
--- the second step raises what went down, and nothing else
-module _ (d : Database) (before : List Bool) (here : Line) (names : List (List ℕ))
-    (plan : PlanSets)
-    (planned : IsPlanOf d here.current.table here.current.live (step_ask Up names) plan) where
-  pub raises_down : IsDatabase d → IsLineOf d here → length before ≡ length d.names
-      → IsClosed d.needs (Has before) → AreNamesOf d (WentDown before here.current.live) names
-      → (s : ℕ) → Has plan.raise s ↔ WentDown before here.current.live s
-  raises_down is of bound closed lists s =
-      let live = here.current.live in
-      let table = here.current.table in
-      let down = WentDown before live in
-      let wanted = IsWanted d.names table (Has live) (step_ask Up names) in
-      let apart = (current_state d here of).apart in (
-        λ has. let comes = (planned.raise s).0 has in (
-          elim comes.0 [
-            | inl up ↦ absurd (comes.1 up)
-            | inr from ↦ closed_has_up d.needs (Has before) wanted closed
-                (λ t w. (wanted_in d table down (Has live) Up names is apart lists t w).0) s from
-          ],
-          comes.1,
-        ),
-        λ went.
-            let low : s < length before = has_within before s went.0 in
-            (planned.raise s).1 (
-              inr (inl (wanted_back d table down (Has live) Up names lists s _
-                  (slice_get-get_or d.names s [] (omega (arith, low, bound))) went)),
-              went.1,
-            ),
+-- a change that has moved something leads to a state whose neighbour is the one before
+behind : (old middle : Line) (live : List Bool) → 3 ≤ old.bound → MovesByChange old live middle
+    → middle.current.live ≢ old.current.live
+    → (back : Line) × IsNext back middle × (back.current ≡ old.current)
+behind old middle live three moves moved = elim moves [
+  | inl stays ↦ absurd (moved (ap (λ (l : Line). l.current.live) stays.1))
+  | inr goes ↦
+      let back : Line = record old { after = with_live old live ∷ [] } in
+      let fit = fitted_back (put_last old (with_live old live)) back three
+      (record { left = refl; reached = refl; bound = refl }) in (
+        fit.0,
+        subst (λ (l : Line). IsNext fit.0 l) (sym goes.1) fit.1,
+        fit.2,
       )
+]
 
-  pub raises_down_alone : (s : ℕ) → Has plan.lower s → ⊥
-  raises_down_alone s has = let goes = (planned.lower s).0 has in goes.1 (inl goes.0)
+-- so an undo then leads to what was live before
+pub comes_back : (d : Database) (old middle : Line) (ask : Ask) (events : List Event)
+    (told : Reported) (limit : ℕ) → IsLineOf d old → Does d old (Change ask events) told middle
+    → middle.current.live ≢ old.current.live
+    → (s : ℕ) → TargetOfCommand d middle (Undo limit []) s ↔ Has old.current.live s
+comes_back d old middle ask events told limit of does moved s = elim does [
+  | inl run ↦
+      let there = behind old middle run.live of.is_line.bound.0 run.moved moved in (
+        λ to.
+            let one : to.0 ≡ there.0 = one_back to.0 there.0 middle to.1 there.1 in
+            subst (λ (x : State). Has x.live s)
+            (ap (λ (l : Line). l.current) one ∙ there.2) to.2,
+        λ has. (there.0, there.1, subst (λ (x : State). Has x.live s) (sym there.2) has),
+      )
+  | inr edit ↦ absurd edit.altered
+]

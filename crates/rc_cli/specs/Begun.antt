@@ -1,10 +1,10 @@
--- The run log of the first step of an update.
-use Rattle.std.specs.Prelude.{◌≡◌, ◌++◌, ℕ, List, [], Some}
+-- Which command a run log is of: the first step of an update or a restart, or an undo or a redo.
+use Rattle.std.specs.Prelude.{◌≡◌, ◌⊎◌, ◌++◌, ℕ, List, [], Some}
 use Rattle.rc_model.specs.Names.{Has}
 use Rattle.rc_model.specs.Database.{Database}
 use Rattle.rc_model.specs.Line.{Line}
 use Rattle.rc_model.specs.declared.Mode.TheVariants.{DownAll}
-use Rattle.rc_model.specs.Session.{Change, Command, IsLineOf}
+use Rattle.rc_model.specs.Session.{Change, Command, IsLineOf, Redo, Undo}
 use Rattle.rc_dbtext.specs.Base.{Spells}
 use Rattle.rc_livetext.specs.Spelling.{Spells as SpellsLine}
 use Rattle.rc_script.specs.RunLines.{IsStepLine, least_limited}
@@ -23,10 +23,18 @@ AreLowered old new list file names = (line : Line) × IsLineOf old line × Spell
 abbrev pub lowering : List (List ℕ) → Command
 lowering names = least_limited (Change (step_ask DownAll names) [])
 
--- bytes begin with the line of the step that lowers these names
+-- bytes begin with the line of this command
+abbrev pub BeginsWith : Command → List ℕ → Type 0
+BeginsWith command bytes =
+    (step : List ℕ) × (rest : List ℕ) × (bytes ≡ step ++ rest) × IsStepLine command step
+
+-- with that of the step that lowers these names
 abbrev pub SaysLowering : List ℕ → List (List ℕ) → Type 0
-SaysLowering bytes names = (step : List ℕ) × (rest : List ℕ) × (bytes ≡ step ++ rest)
-    × IsStepLine (Change (step_ask DownAll names) []) step
+SaysLowering bytes names = BeginsWith (Change (step_ask DownAll names) []) bytes
+
+-- with that of an undo or a redo
+abbrev pub SaysWay : List ℕ → Type 0
+SaysWay bytes = BeginsWith (Undo 1 []) bytes ⊎ BeginsWith (Redo 1 []) bytes
 
 -- a log has the text of the session in front, and then the line of the first step
 abbrev pub BeginsOn : (old new : Database) → List Conversion → (file log : List ℕ) → Type 0
@@ -37,3 +45,12 @@ BeginsOn old new list file log = (names : List (List ℕ)) × (rest : List ℕ) 
 abbrev pub BeginsUpdate : (old new : List ℕ) → List Conversion → (file log : List ℕ) → Type 0
 BeginsUpdate old new list file log = (d : Database) × (e : Database)
     × Spells (Some old) [] d [] × Spells (Some new) [] e [] × BeginsOn d e list file log
+
+-- a log has the text of the session in front, and then the line of the first step of a restart of
+-- these names
+abbrev pub BeginsRestart : List (List ℕ) → (file log : List ℕ) → Type 0
+BeginsRestart names file log = (rest : List ℕ) × (log ≡ file ++ rest) × SaysLowering rest names
+
+-- the same with the line of an undo or a redo
+abbrev pub LogsWay : (file log : List ℕ) → Type 0
+LogsWay file log = (rest : List ℕ) × (log ≡ file ++ rest) × SaysWay rest

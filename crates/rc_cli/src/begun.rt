@@ -1,14 +1,15 @@
-//! Whether a command that was cut short is the first step of an update.
-ghost use Rattle.std.specs.Prelude.{◌≡◌, ◌≢◌, ◌++◌, ◌∷◌, ◌↔◌, [], ℕ, List, All, IsTrue, IfOk};
-ghost use Rattle.std.specs.Prelude.{IfNone, IfSome, MatchOption, Some, map, string_bytes};
+//! Which command a run log is of: the first step of an update or a restart, or an undo or a redo.
+ghost use Rattle.std.specs.Prelude.{◌≡◌, ◌≢◌, ◌⊎◌, ◌++◌, ◌∷◌, ◌↔◌, [], ℕ, List, All, IsTrue};
+ghost use Rattle.std.specs.Prelude.{IfOk, IfNone, IfSome, MatchOption, Some, map, string_bytes};
 ghost use Rattle.rc_dbtext.specs.Base.{Spells};
 ghost use Rattle.rc_model.specs.Database.{Database};
 ghost use Rattle.rc_model.specs.Line.{Line};
-ghost use Rattle.rc_model.specs.Session.{IsLineOf};
+ghost use Rattle.rc_model.specs.Session.{IsLineOf, Redo, Undo};
 ghost use Rattle.rc_livetext.specs.Spelling.{Spells as SpellsLine};
 ghost use Rattle.rc_session.specs.Commands.{plain_of};
 ghost use Rattle.rc_update.specs.Conversions.{conversions_of};
-ghost use Rattle.rc_cli.specs.Begun.{AreLowered, BeginsOn, BeginsUpdate, SaysLowering, lowering};
+ghost use Rattle.rc_cli.specs.Begun.{AreLowered, BeginsOn, BeginsRestart, BeginsUpdate, LogsWay};
+ghost use Rattle.rc_cli.specs.Begun.{SaysLowering, SaysWay, lowering};
 
 use memchr::memchr;
 use rc_db::Db;
@@ -95,6 +96,33 @@ fn begins_on(
     begins
 }
 
+/// Returns true if a run log is that of the first step of a restart of these names, of the session
+/// whose text is `file`.
+pub fn begins_restart(
+    alloc: Global,
+    names: &[String],
+    file: &[u8],
+    log: &[u8],
+) -> Result<bool, NoMem>
+    ensures { IfOk result (λ begins. IsTrue begins
+        ↔ BeginsRestart (map string_bytes names.now) file.now log.now) }
+{
+    let Some(rest) = behind(file, log) else {
+        return Ok(false);
+    };
+    says_lowering(alloc, rest, names)
+}
+
+/// Returns true if a run log is that of an undo or a redo, of the session whose text is `file`.
+pub fn logs_way(alloc: Global, file: &[u8], log: &[u8]) -> Result<bool, NoMem>
+    ensures { IfOk result (λ is. IsTrue is ↔ LogsWay file.now log.now) }
+{
+    let Some(rest) = behind(file, log) else {
+        return Ok(false);
+    };
+    says_way(alloc, rest)
+}
+
 // Returns what follows the given bytes, or `None` if `bytes` does not begin with them.
 fn behind<'a>(front: &[u8], bytes: &'a [u8]) -> Option<&'a [u8]>
     ensures { MatchOption result ((rest : List ℕ) → bytes.now ≡ front.now ++ rest → ⊥)
@@ -159,6 +187,24 @@ fn says_lowering(alloc: Global, bytes: &[u8], names: &[String]) -> Result<bool, 
     }
 }
 
+// Returns true if the first line of these bytes is that of an undo or a redo.
+fn says_way(alloc: Global, bytes: &[u8]) -> Result<bool, NoMem>
+    ensures { IfOk result (λ says. IsTrue says ↔ SaysWay bytes.now) }
+{
+    lines_say_one_thing();
+    let Some((line, _rest)) = first_line(bytes) else {
+        return Ok(false);
+    };
+    match read_line(alloc, line)? {
+        SessionLine::Command(command) => {
+            let is = is_way(&command);
+            drop(command);
+            Ok(is)
+        }
+        _ => Ok(false),
+    }
+}
+
 // Returns the first line without its newline, and what follows it. Returns `None` if there is no
 // newline.
 fn first_line(bytes: &[u8]) -> Option<(&[u8], &[u8])>
@@ -176,6 +222,17 @@ fn is_lowering(command: &Command, names: &[String]) -> bool
 {
     match command {
         Command::Change(request) => request.is_plain(Mode::DownAll, names, 1),
+        _ => false,
+    }
+}
+
+// Returns true if a command is an undo or a redo under the least limit.
+fn is_way(command: &Command) -> bool
+    ensures { IsTrue result
+        ↔ ((plain_of command.now ≡ Undo 1 []) ⊎ (plain_of command.now ≡ Redo 1 [])) }
+{
+    match command {
+        Command::Undo(limit) | Command::Redo(limit) => *limit == 1,
         _ => false,
     }
 }

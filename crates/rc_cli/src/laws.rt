@@ -1,14 +1,15 @@
 //! Laws of the definitions. The functions do nothing when they run.
-ghost use Rattle.std.specs.Prelude.{◌≡◌, ℕ, List, Bool, length};
+ghost use Rattle.std.specs.Prelude.{◌≢◌, ◌↔◌, ℕ, List, Bool, []};
 ghost use Rattle.rc_model.specs.Names.{Has, Holds};
-ghost use Rattle.rc_model.specs.Graph.{IsClosed, UpFrom};
+ghost use Rattle.rc_model.specs.Graph.{UpFrom};
 ghost use Rattle.rc_model.specs.Database.{Database, IsDatabase};
 ghost use Rattle.rc_model.specs.Line.{Line};
-ghost use Rattle.rc_model.specs.Plan.{IsPlanOf, PlanSets};
+ghost use Rattle.rc_model.specs.Plan.{Ask, IsPlanOf, PlanSets};
 ghost use Rattle.rc_model.specs.declared.Mode.TheVariants.{DownAll, Up};
-ghost use Rattle.rc_model.specs.Session.{IsLineOf};
-ghost use Rattle.rc_update.specs.Carrying.{AreNamesOf, Carried, StaysUp};
-ghost use Rattle.rc_cli.specs.Restarting.{WentDown};
+ghost use Rattle.rc_model.specs.Headline.{TargetOfCommand};
+ghost use Rattle.rc_model.specs.Session.{Change, Does, IsLineOf, Reported, Undo};
+ghost use Rattle.rc_model.specs.declared.Event.{Event};
+ghost use Rattle.rc_update.specs.Carrying.{Carried, StaysUp};
 ghost use Rattle.rc_update.specs.Conversions.{Conversion};
 ghost use Rattle.rc_cli.specs.Steps.{step_ask};
 ghost use Rattle.rc_cli.specs.Updating.{IsUpdate, IsWantedUp, Parts};
@@ -46,17 +47,12 @@ pub fn raising_spares_the_rest()
         (s : ℕ) → Has plan.lower s → ⊥ }
 {}
 
-/// The second step of a restart raises exactly what went down in the first one, even if other
-/// services did not go down. It moves nothing else.
-pub fn restarts_raise_what_went_down()
-    ensures raises { (d : Database) (before : List Bool) (here : Line) (names : List (List ℕ))
-        (plan : PlanSets) →
-        IsDatabase d → IsLineOf d here → length before ≡ length d.names →
-        IsClosed d.needs (Has before) →
-        AreNamesOf d (WentDown before here.current.live) names →
-        IsPlanOf d here.current.table here.current.live (step_ask Up names) plan →
-        Holds plan.raise (WentDown before here.current.live) }
-    ensures alone { (d : Database) (here : Line) (names : List (List ℕ)) (plan : PlanSets) →
-        IsPlanOf d here.current.table here.current.live (step_ask Up names) plan →
-        (s : ℕ) → Has plan.lower s → ⊥ }
+/// An undo after the first step of a restart, if that has moved something, leads back to what was
+/// live before the restart.
+pub fn restarts_come_back()
+    ensures { (d : Database) (old middle : Line) (ask : Ask) (events : List Event)
+        (told : Reported) (limit : ℕ) →
+        IsLineOf d old → Does d old (Change ask events) told middle →
+        middle.current.live ≢ old.current.live →
+        (s : ℕ) → TargetOfCommand d middle (Undo limit []) s ↔ Has old.current.live s }
 {}

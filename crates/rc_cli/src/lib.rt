@@ -15,7 +15,7 @@ mod status;
 mod update;
 mod updating;
 
-pub use crate::begun::begins_update;
+pub use crate::begun::{begins_restart, begins_update, logs_way};
 pub use crate::queries::{db_run, plan_run, replay_run};
 pub use crate::sealing::seal_as_asked;
 pub use crate::sessions::{LiveFile, Service, Store, TextKeeper, launch};

@@ -9,6 +9,8 @@ pub mod Logs
 -- What the two files of a session hold since they were read, and what a crash may have left of
 -- them since.
 pub mod Held
+-- What the command of a run log has done to the states of the session.
+pub mod Keeping
 -- What came of a run log beside the file of a session that is locked.
 pub mod Recovered
 -- What is found beside the file of a session, and that its runs are logged.

@@ -12,6 +12,7 @@ use Rattle.rc_launch.specs.declared.loading.Loaded.{Loaded}
 use Rattle.rc_launch.specs.declared.texts.FileText.{FileText}
 use Rattle.rc_launch.specs.declared.texts.FoundHistory.{FoundHistory}
 use Rattle.rc_launch.specs.declared.texts.LiveText.{LiveText}
+use Rattle.rc_launch.specs.declared.texts.ReadFiles.{ReadFiles}
 
 -- something is to be done, and not only shown
 abbrev pub MovesBy : SessionCommand → Type 0
@@ -66,3 +67,7 @@ abbrev pub IsLoaded : SessionCommand → (file : Option (Bor (List ℕ))) → Li
 IsLoaded command file live loaded = (loaded.command ≡ command)
     × (option_map path_of loaded.base ≡ base_file live file)
     × (option_map path_of loaded.new ≡ new_file command)
+
+-- the text of the history that stood in the file of a session, if one did
+abbrev pub history_read : ReadFiles → Option (List ℕ)
+history_read read = option_map (λ history. history.text.items) read.history

@@ -1,9 +1,11 @@
 //! The two files of a session on a disk, as they were read while it was locked.
 ghost use Rattle.std.specs.Prelude.{◌≡◌, IfOk, IsSome, option_map, unwrap_or, []};
 ghost use Rattle.rc_launch.specs.Held.{IsUnwritten, WasLeft, files_held};
+ghost use Rattle.rc_launch.specs.Keeping.{KeepsAs, PassesIn, is_step, keeping_by};
+ghost use Rattle.rc_launch.specs.Loading.{history_read};
 
-use crate::fronts::behind;
 use crate::texts::ReadFiles;
+use rc_cli::logs_way;
 use rc_historytext::{HistoryFault, Keeping, keep_session, standing_of};
 use rc_recovery::{FileFault, TwoFiles};
 use rc_streams::replaced_file::replace;
@@ -30,6 +32,17 @@ pub(crate) enum Begun {
     FailedEmpty,
 }
 
+/// What the command that finds a run log is to the command of the log.
+#[derive(Clone, Copy, PartialEq, Eq, Debug)]
+pub(crate) enum Finder {
+    /// The same command: the log is that of its first step.
+    GivenAgain,
+    /// Another one that takes back what was cut short before it begins.
+    TakesBack,
+    /// Any other one.
+    Other,
+}
+
 /// The file of a session and its run log, with what they hold since they were read, the writes
 /// that were begun and, after a call that failed, why. Contracts see what was read and written:
 /// nobody else writes them while they are locked.
@@ -49,22 +62,27 @@ pub struct HeldFiles<'a> {
 }
 
 impl<'a> HeldFiles<'a> {
-    /// Creates the held files from what was read of them while they were locked. If
-    /// `is_first_step`, the log is that of the first step of the requested update.
+    /// Creates the held files from what was read of them while they were locked, for the command
+    /// that finds their log.
     pub(crate) fn new(
         rt: &'a HostRuntime,
         read: &ReadFiles<'a>,
-        is_first_step: bool,
-    ) -> Result<HeldFiles<'a>, AllocError>
+        finder: Finder,
+    ) -> Result<HeldFiles<'a>, HistoryFault>
         ensures path { IfOk result (λ held. held.path ≡ read.now.logged.path) }
         ensures file { IfOk result (λ held. held.file.items
             ≡ unwrap_or (option_map (λ bytes. bytes.items) read.now.found) []) }
         ensures log { IfOk result (λ held. held.log.items ≡ read.now.logged.bytes.items) }
+        ensures history { IfOk result (λ held.
+            option_map (λ text. text.items) held.history ≡ history_read read.now) }
+        ensures keeping { IfOk result (λ held. KeepsAs finder (history_read read.now)
+            (unwrap_or (option_map (λ bytes. bytes.items) read.now.found) [])
+            read.now.logged.bytes.items held.keeping) }
         ensures unwritten { IfOk result IsUnwritten }
     {
-        let history = match read.history() {
-            Some(text) => Some(Vec::from_slice(rt.alloc(), text)?),
-            None => None,
+        let keeping = keeping_of(rt.alloc(), read, finder)?;
+        let Ok(history) = copy_of(rt.alloc(), read.history()) else {
+            return Err(HistoryFault::Memory);
         };
         match copies(rt.alloc(), read) {
             Ok((file, log)) => Ok(HeldFiles {
@@ -73,13 +91,13 @@ impl<'a> HeldFiles<'a> {
                 file,
                 log,
                 history,
-                keeping: keeping_of(rt.alloc(), read, is_first_step),
+                keeping,
                 begun: Vec::new(rt.alloc()),
                 error: None,
             }),
-            Err(short) => {
+            Err(_) => {
                 drop(history);
-                Err(short)
+                Err(HistoryFault::Memory)
             }
         }
     }
@@ -108,37 +126,71 @@ fn copies(alloc: Global, read: &ReadFiles<'_>) -> Result<(Vec<u8>, Vec<u8>), All
     }
 }
 
-// Returns the effect of the command of a log on the states of the session. The first step of the
-// requested update leaves a state that is passed, and so does a command that began on one. An undo
-// or a redo drops no state, even if it goes on from a state that is passed.
-fn keeping_of(alloc: Global, read: &ReadFiles<'_>, is_first_step: bool) -> Keeping {
-    let is_passed = match read.history() {
-        Some(history) => match standing_of(alloc, history) {
-            Ok(standing) => standing.is_passed(),
-            Err(_) => false,
-        },
-        None => false,
-    };
-    let rest = behind(read.text(), read.log()).unwrap_or(&[]);
-    if is_way(rest) {
-        Keeping::Way
-    } else if is_first_step || is_passed {
-        Keeping::Step
-    } else {
-        Keeping::Command
+// Copies a text, if there is one.
+fn copy_of(alloc: Global, text: Option<&[u8]>) -> Result<Option<Vec<u8>>, AllocError>
+    ensures { IfOk result (λ copy.
+        option_map (λ bytes. bytes.items) copy ≡ option_map (λ bytes. bytes.now) text.entry) }
+{
+    match text {
+        Some(bytes) => Ok(Some(Vec::from_slice(alloc, bytes)?)),
+        None => Ok(None),
     }
 }
 
-// Returns true if the line of a command is an undo or a redo. Its timeout may stand before it.
-fn is_way(line: &[u8]) -> bool {
-    let mut before: u32 = if line.starts_with(b"-t ") { 2 } else { 0 };
-    for word in line.split(|byte| *byte == b' ' || *byte == b'\n') {
-        if before == 0 {
-            return word == b"undo".as_slice() || word == b"redo".as_slice();
-        }
-        before = before.saturating_sub(1);
+// Returns the effect of the command of a log on the states of the session.
+fn keeping_of(alloc: Global, read: &ReadFiles<'_>, finder: Finder) -> Result<Keeping, HistoryFault>
+    ensures { IfOk result (KeepsAs finder (history_read read.now)
+        (unwrap_or (option_map (λ bytes. bytes.items) read.now.found) [])
+        read.now.logged.bytes.items) }
+{
+    let (passed, last) = passes_in(alloc, read.history())?;
+    match logs_way(alloc, read.text(), read.log()) {
+        Ok(way) => Ok(keeping_by(is_step(finder, way, passed, last), way)),
+        Err(_) => Err(HistoryFault::Memory),
     }
-    false
+}
+
+// Returns whether an undo and a redo go on from the state on which a history stands, and whether
+// nothing comes after it.
+fn passes_in(alloc: Global, history: Option<&[u8]>) -> Result<(bool, bool), HistoryFault>
+    ensures { IfOk result (λ both. PassesIn (option_map (λ text. text.now) history.entry)
+        both.0 both.1) }
+{
+    match history {
+        Some(text) => {
+            let standing = standing_of(alloc, text)?;
+            Ok((
+                standing.is_passed(),
+                standing.after == 0 && standing.later == 0,
+            ))
+        }
+        None => Ok((false, false)),
+    }
+}
+
+// Returns true if the command of a log was a step of a command of several.
+fn is_step(finder: Finder, way: bool, passed: bool, last: bool) -> bool
+    ensures { result ≡ is_step finder way passed last }
+{
+    match finder {
+        Finder::GivenAgain => true,
+        Finder::TakesBack => passed,
+        Finder::Other => passed && (!way || last),
+    }
+}
+
+// Returns its effect. An undo or a redo that is no step drops no state, even if it goes on from a
+// state that is passed.
+fn keeping_by(step: bool, way: bool) -> Keeping
+    ensures { result ≡ keeping_by step way }
+{
+    if step {
+        Keeping::Step
+    } else if way {
+        Keeping::Way
+    } else {
+        Keeping::Command
+    }
 }
 
 impl HeldFiles<'_> {

@@ -5,6 +5,7 @@
 #![tactic(auto)]
 
 mod borders;
+mod carrying_out;
 mod fault;
 pub mod frontend;
 mod fronts;
@@ -21,7 +22,9 @@ mod serving;
 mod texts;
 mod travel;
 mod tried_lock;
+mod two_steps;
 
+pub use crate::carrying_out::carry_out;
 pub use crate::fault::OpenFault;
 pub use crate::held_files::HeldFiles;
 pub use crate::live_store::LiveStore;
@@ -32,4 +35,3 @@ pub use crate::recovering::{Unrecovered, left_report, recover_by};
 pub use crate::runs::Runs;
 pub use crate::serving::{Status, serve};
 pub use crate::texts::{FileText, LiveText, LogText, ReadFiles};
-pub use crate::travel::carry_out;

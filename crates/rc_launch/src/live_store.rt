@@ -381,7 +381,9 @@ fn frame_of<'a>(alloc: Global, opened: &'a Opened<'_>) -> Result<Frame<'a>, Allo
         return Ok(Frame::History(Vec::from_slice(alloc, history)?));
     }
     match (opened.command(), opened.base()) {
-        (SessionCommand::Update(_), Some(base)) => Ok(Frame::Begins(base.bytes())),
+        (SessionCommand::Update(_) | SessionCommand::Restart(_), Some(base)) => {
+            Ok(Frame::Begins(base.bytes()))
+        }
         _ => Ok(Frame::Alone(opened.live().bytes())),
     }
 }
@@ -389,8 +391,7 @@ fn frame_of<'a>(alloc: Global, opened: &'a Opened<'_>) -> Result<Frame<'a>, Allo
 // Returns the effect of a command on the states of the session.
 fn keeping_of(command: &SessionCommand<'_>) -> Keeping {
     match command {
-        SessionCommand::Update(_) => Keeping::Step,
-        SessionCommand::Restart(_) => Keeping::Command,
+        SessionCommand::Update(_) | SessionCommand::Restart(_) => Keeping::Step,
         SessionCommand::Seal(_) => Keeping::Seal,
         SessionCommand::Line(request) => match &request.once {
             Once::Line(SessionLine::Command(Command::Undo(_) | Command::Redo(_))) => Keeping::Way,

@@ -1,7 +1,7 @@
 //! Texts that were read from files. Only a read makes these values, so a command is carried out on
 //! what the files had.
 ghost use Rattle.std.specs.Prelude.{◌≡◌, ◌↔◌, IfOk, IsTrue, option_map, unwrap_or, []};
-ghost use Rattle.rc_launch.specs.Loading.{base_file};
+ghost use Rattle.rc_launch.specs.Loading.{base_file, history_read};
 ghost use Rattle.rc_launch.specs.Logs.{IsCutBy, text_in};
 
 use crate::fault::OpenFault;
@@ -277,7 +277,9 @@ impl<'a> ReadFiles<'a> {
     }
 
     /// Returns the text of the history that stood in the file, if it was one.
-    pub(crate) fn history(&self) -> Option<&[u8]> {
+    pub(crate) fn history(&self) -> Option<&[u8]>
+        ensures { option_map (λ text. text.now) result ≡ history_read self.now }
+    {
         match &self.history {
             Some(history) => Some(&history.text),
             None => None,

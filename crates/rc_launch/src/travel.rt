@@ -1,17 +1,14 @@
-//! Commands on a history: an undo and a redo go on from states that are passed, across borders; and
-//! an update takes back what was cut short before it begins.
+//! Commands on a history: an undo and a redo go on from states that are passed, across borders.
 ghost use Rattle.rc_streams.specs.Noting.{HasFailed};
 
 use crate::borders::{first_unjoined, goes_on_behind};
 use crate::live_store::LiveStore;
 use crate::opened::Opened;
-use crate::serving::{Status, serve, serve_on, serve_update, status_of};
-use rc_args::{Once, SessionCommand, UpdateRequest};
+use crate::serving::serve_on;
+use rc_args::Once;
 use rc_cli::sessions::{Devices, LiveFile, Service};
-use rc_historytext::{HistoryFault, Keeping, cross_border, present_of, standing_of};
-use rc_script::SessionLine;
+use rc_historytext::{HistoryFault, cross_border, present_of, standing_of};
 use rc_serve::KeepFault;
-use rc_session::Command;
 use rc_streams::ending::{DONE, FAILED, REFUSED};
 use rc_streams::writing::write_answer;
 use rc_streams::{Failure, tell};
@@ -28,64 +25,22 @@ const MAX_STEPS: usize = 16;
 
 /// An undo or a redo.
 #[derive(Clone, Copy)]
-struct Way<'a> {
+pub(crate) struct Way<'a> {
     /// Its line, or that it is only shown.
-    once: &'a Once,
-    is_on: bool,
-    is_dry: bool,
+    pub once: &'a Once,
+    pub is_on: bool,
+    pub is_dry: bool,
 }
 
 /// The texts of a generation.
 #[derive(Drop)]
-struct Texts {
-    database: Vec<u8>,
-    session: Vec<u8>,
+pub(crate) struct Texts {
+    pub database: Vec<u8>,
+    pub session: Vec<u8>,
 }
 
-/// Carries a command out on the files that were opened for it, and returns the status, as `serve`
-/// does. On a history it goes on as far as the command leads. The devices must not have failed
-/// before.
-pub fn carry_out<'x, T: Threads + Wait + Sync, R: Read, W: Write, F: Write>(
-    rt: &'x HostRuntime,
-    threads: &'x T,
-    opened: &'x Opened<'_>,
-    devices: &mut Devices<R, W, F, LiveStore<'x>>,
-) -> Status
-    requires reader { HasFailed devices.old.reader → ⊥ }
-    requires writer { HasFailed devices.old.outputs.writer → ⊥ }
-{
-    match opened.command() {
-        SessionCommand::Line(request) => match way_of(&request.once) {
-            Some(way) if opened.live().history().is_some() => {
-                status_of(travel(rt, threads, opened, way, devices))
-            }
-            _ => serve(rt, threads, opened, devices),
-        },
-        SessionCommand::Update(request) if !request.dry => {
-            status_of(update(rt, threads, opened, request, devices))
-        }
-        _ => serve(rt, threads, opened, devices),
-    }
-}
-
-// Returns the way of an undo or a redo, if the line is one.
-fn way_of(once: &Once) -> Option<Way<'_>> {
-    let (is_on, is_dry) = match once {
-        Once::DryUndo => (false, true),
-        Once::DryRedo => (true, true),
-        Once::Line(SessionLine::Command(Command::Undo(_))) => (false, false),
-        Once::Line(SessionLine::Command(Command::Redo(_))) => (true, false),
-        Once::Line(_) => return None,
-    };
-    Some(Way {
-        once,
-        is_on,
-        is_dry,
-    })
-}
-
-// Carries out an undo or a redo, and returns the status. All borders on its way are tested first.
-fn travel<'x, T: Threads + Wait + Sync, R: Read, W: Write, F: Write>(
+/// Carries out an undo or a redo, and returns the status. All borders on its way are tested first.
+pub(crate) fn travel<'x, T: Threads + Wait + Sync, R: Read, W: Write, F: Write>(
     rt: &'x HostRuntime,
     threads: &'x T,
     opened: &'x Opened<'_>,
@@ -199,7 +154,7 @@ fn show<'x, T: Threads + Wait + Sync, R: Read, W: Write, F: Write>(
             code = fail_on(b"Memory", devices);
             break;
         };
-        if !standing.is_passed() {
+        if !standing.is_passed() || !standing.has_next(way.is_on) {
             break;
         }
     }
@@ -209,105 +164,6 @@ fn show<'x, T: Threads + Wait + Sync, R: Read, W: Write, F: Write>(
     } else {
         say_done(b"ok\n", devices)
     }
-}
-
-// Carries out an update, and returns the status. First takes back what was cut short before. Once
-// all is done, makes the current state a stop.
-fn update<'x, T: Threads + Wait + Sync, R: Read, W: Write, F: Write>(
-    rt: &'x HostRuntime,
-    threads: &'x T,
-    opened: &'x Opened<'_>,
-    request: &UpdateRequest<'_>,
-    devices: &mut Devices<R, W, F, LiveStore<'x>>,
-) -> u8
-    requires reader { HasFailed devices.old.reader → ⊥ }
-    requires writer { HasFailed devices.old.outputs.writer → ⊥ }
-{
-    let taken = take_back(rt, threads, opened, devices);
-    if let Some(code) = taken {
-        if code != DONE {
-            return code;
-        }
-    }
-    if devices.reader.failed() || devices.outputs.writer.failed() {
-        return FAILED;
-    }
-    let code = carry_over(rt, threads, opened, request, devices);
-    if taken.is_some() {
-        hindered(code)
-    } else {
-        code
-    }
-}
-
-// Carries the session over to the new database, and returns the status. If the history stands in
-// that database already, and there are no conversions, it is not entered.
-fn carry_over<'x, T: Threads + Wait + Sync, R: Read, W: Write, F: Write>(
-    rt: &'x HostRuntime,
-    threads: &'x T,
-    opened: &'x Opened<'_>,
-    request: &UpdateRequest<'_>,
-    devices: &mut Devices<R, W, F, LiveStore<'x>>,
-) -> u8
-    requires reader { HasFailed devices.old.reader → ⊥ }
-    requires writer { HasFailed devices.old.outputs.writer → ⊥ }
-{
-    let Some(texts) = texts_in(rt.alloc(), devices) else {
-        return settled(
-            serve_update(rt, threads, opened, request, None, devices),
-            devices,
-        );
-    };
-    let Ok(texts) = texts else {
-        return fail_on(b"Memory", devices);
-    };
-    let is_same = match opened.new_base() {
-        Some(new) => new.bytes() == texts.database.as_slice(),
-        None => false,
-    };
-    if is_same && request.conversions.is_empty() {
-        drop(texts);
-        return say_done(b"ok\nok\n", devices);
-    }
-    let place = Some((texts.database.as_slice(), texts.session.as_slice()));
-    let code = serve_update(rt, threads, opened, request, place, devices);
-    drop(texts);
-    settled(code, devices)
-}
-
-// Undoes what was cut short, if the current state is passed, and returns the status of that.
-fn take_back<'x, T: Threads + Wait + Sync, R: Read, W: Write, F: Write>(
-    rt: &'x HostRuntime,
-    threads: &'x T,
-    opened: &'x Opened<'_>,
-    devices: &mut Devices<R, W, F, LiveStore<'x>>,
-) -> Option<u8>
-    requires reader { HasFailed devices.old.reader → ⊥ }
-    requires writer { HasFailed devices.old.outputs.writer → ⊥ }
-{
-    if history_in(devices).is_empty() {
-        return None;
-    }
-    match goes_on_behind(rt.alloc(), history_in(devices), false) {
-        Ok(true) => {}
-        Ok(false) => return None,
-        Err(_) => return Some(fail_on(b"Memory", devices)),
-    }
-    let once = Once::Line(SessionLine::Command(Command::Undo(u32::MAX)));
-    let way = Way {
-        once: &once,
-        is_on: false,
-        is_dry: false,
-    };
-    devices.outputs.keeper.store.keep_as(Keeping::Way);
-    let code = if devices.reader.failed() || devices.outputs.writer.failed() {
-        FAILED
-    } else {
-        travel(rt, threads, opened, way, devices)
-    };
-    devices.outputs.keeper.store.keep_as(Keeping::Step);
-    drop(once);
-    Some(code)
 }
 
 // Serves the line of an undo or a redo in the present generation, and returns the status.
@@ -332,8 +188,8 @@ fn run_inside<'x, T: Threads + Wait + Sync, R: Read, W: Write, F: Write>(
     }
 }
 
-// Returns the texts of the present generation, or `None` if there is no history.
-fn texts_in<R, W, F>(
+/// Returns the texts of the present generation, or `None` if there is no history.
+pub(crate) fn texts_in<R, W, F>(
     alloc: Global,
     devices: &Devices<R, W, F, LiveStore<'_>>,
 ) -> Option<Result<Texts, HistoryFault>> {
@@ -369,25 +225,16 @@ fn is_border(alloc: Global, history: &[u8], is_on: bool) -> Result<bool, History
     }
 }
 
-// Turns the state to which a command of several steps has come into a stop, if all is done. Returns
-// the status.
-fn settled<R, W, F: Write>(code: u8, devices: &mut Devices<R, W, F, LiveStore<'_>>) -> u8 {
-    if code != DONE {
-        return code;
-    }
-    match devices.outputs.keeper.store.settle() {
-        Ok(()) => DONE,
-        Err(fault) => fail_on(word_of(fault), devices),
-    }
-}
-
-// Returns the status of a command that ended with this code after a part of it was carried out.
-fn hindered(code: u8) -> u8 {
+/// Returns the status of a command that ended with this code after a part of it was carried out.
+pub(crate) fn hindered(code: u8) -> u8 {
     if code == REFUSED { HINDERED } else { code }
 }
 
-// Writes the answer of a command that moved nothing, and returns the status.
-fn say_done<R, W: Write, F: Write, S>(answer: &[u8], devices: &mut Devices<R, W, F, S>) -> u8 {
+/// Writes the answer of a command that moved nothing, and returns the status.
+pub(crate) fn say_done<R, W: Write, F: Write, S>(
+    answer: &[u8],
+    devices: &mut Devices<R, W, F, S>,
+) -> u8 {
     match write_answer(&mut devices.outputs.writer, answer) {
         Ok(()) => DONE,
         Err(_) => fail_on(b"Write", devices),
@@ -410,14 +257,14 @@ fn tell_unjoined<R, W, F: Write, S>(
     }
 }
 
-// Reports a failure, and returns the status.
-fn fail_on<R, W, F: Write, S>(word: &[u8], devices: &mut Devices<R, W, F, S>) -> u8 {
+/// Reports a failure, and returns the status.
+pub(crate) fn fail_on<R, W, F: Write, S>(word: &[u8], devices: &mut Devices<R, W, F, S>) -> u8 {
     tell(&mut devices.faults, word);
     FAILED
 }
 
-// Returns the word for a write that failed.
-fn word_of(fault: KeepFault) -> &'static [u8] {
+/// Returns the word for a write that failed.
+pub(crate) fn word_of(fault: KeepFault) -> &'static [u8] {
     match fault {
         KeepFault::Io => b"Io",
         KeepFault::Memory => b"Memory",

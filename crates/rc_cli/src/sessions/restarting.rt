@@ -1,13 +1,14 @@
-//! A restart: services go down with all that needs them, and what went down comes up again.
-ghost use Rattle.std.specs.Prelude.{◌≡◌, ◌≢◌, None, false, length, map, string_bytes, IfErr, IfOk};
-ghost use Rattle.rc_update.specs.Carrying.{AreNamesOf};
+//! A restart: services go down with all that depends on them, and what went down comes up again.
+ghost use Rattle.std.specs.Prelude.{◌≡◌, ◌≢◌, ◌↔◌, None, false, length, map, string_bytes, IfErr};
+ghost use Rattle.std.specs.Prelude.{IsTrue};
 ghost use Rattle.rc_serve.specs.Ending.{IsDoneAs};
 ghost use Rattle.rc_serve.specs.Faults.{IsServeFault};
 ghost use Rattle.rc_streams.specs.Noting.{HasFailed, inner_of};
 ghost use Rattle.rc_script.specs.Says.{saying_of};
 ghost use Rattle.rc_args.specs.OnceAsked.{Said};
 ghost use Rattle.rc_args.specs.SessionAsked.{session_ask_of};
-ghost use Rattle.rc_cli.specs.Restarting.{RaisesAgain, Restarted, WentDown, ending_with};
+ghost use Rattle.rc_cli.specs.Once.{ServedOnce};
+ghost use Rattle.rc_cli.specs.Restarting.{Restarted, coming_back, ending_with};
 ghost use Rattle.rc_cli.specs.Steps.{lowering};
 ghost use Rattle.rc_cli.specs.Storing.{store_of};
 
@@ -21,24 +22,22 @@ use rc_board::Gate;
 use rc_script::SessionLine;
 use rc_select::Mode;
 use rc_serve::{Ending, ServeFault};
-use rc_session::Session;
-use rc_set::{NoMem, Set};
-use rc_update::names_of;
-use std::alloc::Global;
+use rc_session::{Command, Session};
+use rc_set::Set;
 use std::io::Write;
 use std::sync::Wait;
 use std::thread::Threads;
 
-/// What is ahead of the first step: what was live before it, and its line.
+/// What is there before the first step: what is live, and the line of the step.
 #[derive(Drop)]
 struct First {
     before: Set,
     line: SessionLine,
 }
 
-/// Restarts services on a session. Two lines are served, and their answers are written. The first
-/// one lowers what is named, as `change -D` does. The second one raises exactly what went down,
-/// even if other services did not go down. Each is an entry of the journal.
+/// Restarts services on a session, in two lines, and writes the answer of each. The first one
+/// lowers what is named, as `change -D`. If that has moved something, the second one is an `undo`:
+/// what went down comes up again, and the session is where it was before.
 pub(crate) fn restart_in<T: Threads + Wait + Sync, W: Write, G: Gate, S: Store, L>(
     host: &Host<'_, T, L>,
     request: &SessionRequest<'_>,
@@ -73,7 +72,7 @@ pub(crate) fn restart_in<T: Threads + Wait + Sync, W: Write, G: Gate, S: Store, 
     ended
 }
 
-// Serves the first step and, if that is not refused, the second one.
+// Serves the first step and, if that has moved something, the second one.
 fn serve_steps<T: Threads + Wait + Sync, W: Write, G: Gate, S: Store, L>(
     host: &Host<'_, T, L>,
     request: &SessionRequest<'_>,
@@ -101,58 +100,51 @@ fn serve_steps<T: Threads + Wait + Sync, W: Write, G: Gate, S: Store, L>(
         Ok(lowered) => lowered,
         Err(fault) => return Err(fault),
     };
-    match raise_again(host, request, session, gate, &first.before, outputs) {
+    if is_live(session, &first.before) {
+        return Ok(lowered);
+    }
+    match come_back(host, request, session, gate, outputs) {
         Ok(raised) => Ok(ending_with(lowered, raised)),
         Err(fault) => Err(fault),
     }
 }
 
-// Serves the second step, which raises what was live before and is not any more.
-fn raise_again<T: Threads + Wait + Sync, W: Write, G: Gate, S: Store, L>(
+// Serves the second step: an undo, which can be called off.
+fn come_back<T: Threads + Wait + Sync, W: Write, G: Gate, S: Store, L>(
     host: &Host<'_, T, L>,
     request: &SessionRequest<'_>,
     session: &mut Session,
     gate: &G,
-    before: &Set,
     outputs: &mut Outputs<W, S>,
 ) -> Result<Ending, ServeFault>
     requires closed { session.old.begun ≡ false }
     requires whole { session.old.spoiled ≡ false }
     requires writer { HasFailed outputs.old.writer → ⊥ }
-    requires bound { length before.now ≡ length session.old.database.names }
-    ensures served { RaisesAgain result (session_ask_of request.now).live
+    ensures served { ServedOnce result (session_ask_of request.now).live
         (S.holds (store_of outputs.old.keeper)) (S.holds (store_of outputs.new.keeper))
-        (IsDoneAs request.now.workers (G.answers gate.now) (G.gives gate.now)) before.now
+        (IsDoneAs request.now.workers (G.answers gate.now) (G.gives gate.now)) coming_back
         (W.contents (inner_of outputs.old.writer)) (W.contents (inner_of outputs.new.writer))
-        session.old }
+        session.old session.new }
     ensures fault { IfErr result (IsServeFault ⊥ (HasFailed outputs.new.writer)
         (((session_ask_of request.now).live ≢ None) × S.failed (store_of outputs.new.keeper))) }
 {
-    let Ok(down) = went_down(host.alloc, session, before) else {
-        return Err(ServeFault::Memory);
-    };
-    let raising = step_line(false, Mode::Up, down);
-    let raised = line_once(host, request, session, gate, &raising, outputs);
-    drop(raising);
+    let back = SessionLine::Command(Command::Undo(u32::MAX));
+    let raised = line_once(host, request, session, gate, &back, outputs);
+    drop(back);
     raised
 }
 
-// Returns the names of what was live before and is not any more.
-fn went_down(alloc: Global, session: &Session, before: &Set) -> Result<Vec<String>, NoMem>
+// Returns true if this is what is live.
+fn is_live(session: &Session, before: &Set) -> bool
     requires closed { session.now.begun ≡ false }
     requires bound { length before.now ≡ length session.now.database.names }
-    ensures { IfOk result (λ down. AreNamesOf session.now.database
-        (WentDown before.now session.now.line.current.live) (map string_bytes down.items)) }
+    ensures { IsTrue result ↔ (session.now.line.current.live ≡ before.now) }
 {
     let _states = session.journal();
-    let mut gone = before.copy(alloc)?;
-    gone.without(session.live());
-    let names = names_of(alloc, session.db().names(), &gone);
-    drop(gone);
-    names
+    session.live().same(before)
 }
 
-// Returns the ending of a restart by the endings of its steps.
+// Returns how a restart ends whose steps end so.
 fn ending_with(lowered: Ending, raised: Ending) -> Ending
     ensures { result ≡ ending_with lowered raised }
 {
