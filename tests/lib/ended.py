@@ -13,7 +13,7 @@ import re
 from collections import Counter
 
 PROGRESS = re.compile(r"undorc: +[0-9]+\.[0-9]+ s  ((up|down) ([a-z]): (started|ok|not started))\Z")
-HELP = re.compile(r"  (nothing is named|options stand|no change is|-p goes) ")
+HELP = re.compile(r"  (nothing is named|options stand|no change is|-p goes|(no|a) (bundle|service) has this name[;,]) ")
 # What is told of a run log or of the log of commands, beside a fault or alone.
 LOG = re.compile(r"undorc: (the next command enters what was moved|\S+\.run can't be written: .*"
                  r"|\S+\.log: .*: this command is not entered there)\Z")

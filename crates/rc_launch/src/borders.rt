@@ -25,6 +25,18 @@ pub(crate) fn goes_on_behind(
     }
 }
 
+/// Returns true if a history stands on a state that is passed, and an undo from there ends in the
+/// present generation, as it does after a restart that was cut short.
+pub(crate) fn goes_back_inside(alloc: Global, history: &[u8]) -> Result<bool, HistoryFault> {
+    match standing_of(alloc, history) {
+        Ok(standing) => {
+            let ends_inside = standing.has_inside(false) && !standing.passes_inside(false);
+            Ok(standing.is_passed() && ends_inside)
+        }
+        Err(fault) => Err(fault),
+    }
+}
+
 /// Returns the first border on the way of an undo or a redo that is not joined. A border is given
 /// by the place of the generation behind it.
 pub(crate) fn first_unjoined(

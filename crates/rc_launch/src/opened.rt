@@ -2,12 +2,14 @@
 ghost use Rattle.std.specs.Prelude.{◌≡◌, option_map};
 ghost use Rattle.rc_launch.specs.Loading.{session_in};
 
-use crate::borders::goes_on_behind;
+use crate::borders::{goes_back_inside, goes_on_behind};
 use crate::loading::Loaded;
 use crate::recovered::Recovery;
 use crate::runs::Runs;
 use crate::texts::{FileText, LiveText, LogText};
-use rc_args::{SessionCommand, SessionRequest};
+use rc_args::{Once, SessionCommand, SessionRequest};
+use rc_script::SessionLine;
+use rc_session::Command;
 use std::alloc::Global;
 
 /// What was found beside the file of a session.
@@ -73,12 +75,20 @@ impl<'a> Opened<'a> {
         self.loaded.other
     }
 
-    /// Returns true if the session stands on a state from which an undo goes on: an update was cut
-    /// short there.
-    pub fn is_passed(&self, alloc: Global) -> bool {
-        match self.live.history() {
-            Some(history) => goes_on_behind(alloc, history, false).unwrap_or(false),
-            None => false,
+    /// Returns true if the session stands on a state that was only passed, and the command goes on
+    /// from there: it neither takes back what was cut short nor is an undo or a redo.
+    pub fn goes_on_from_passed(&self, alloc: Global) -> bool {
+        let Some(history) = self.live.history() else {
+            return false;
+        };
+        let passed = goes_on_behind(alloc, history, false).unwrap_or(false);
+        match &self.loaded.command {
+            SessionCommand::Update(_) | SessionCommand::Status(_) => false,
+            SessionCommand::Restart(_) => {
+                passed && !goes_back_inside(alloc, history).unwrap_or(true)
+            }
+            SessionCommand::Line(request) => passed && is_new_state(&request.once),
+            SessionCommand::Lines(_) | SessionCommand::Seal(_) => passed,
         }
     }
 
@@ -108,5 +118,18 @@ impl<'a> Opened<'a> {
         ensures { result.now ≡ self.now.note }
     {
         &self.note
+    }
+}
+
+// Returns true if a line leads on to a new state.
+fn is_new_state(once: &Once) -> bool {
+    match once {
+        Once::Line(SessionLine::Command(command)) => {
+            matches!(
+                command,
+                Command::Change(_) | Command::Add(..) | Command::Delete(..)
+            )
+        }
+        _ => false,
     }
 }

@@ -8,6 +8,7 @@ mod notes;
 mod own_name;
 mod stopping;
 mod updates;
+mod usage;
 mod workers;
 
 use crate::commands::carry_out;
@@ -15,19 +16,19 @@ use crate::defaults::{DefaultTexts, defaults_at, unread_in};
 use crate::own_name::words;
 use crate::stopping::stop;
 use crate::updates::update;
+use crate::usage::tell_wrong;
 use log::error;
-use rc_args::{Invocation, SessionCommand, WordsFault, asks_help, invocation_of, tell_words};
+use rc_args::{Invocation, SessionCommand, invocation_of};
 use rc_cli::queries::Query;
 use rc_launch::frontend::{compile, query, tell_failure};
-use rc_streams::escaping::Escaped;
 use rc_streams::messages::{MESSAGE, Messages};
 use std::io::{self, ErrorKind};
 use std::process::ExitCode;
 
 /// A wrong command line.
 const WRONG_LINE: u8 = 100;
-/// What `undorc version` prints.
-const VERSION: &str = "undorc 0.2.0";
+/// What `undorc version` prints: the first entry of NEWS, with its date if it is a release.
+const VERSION: &str = "undorc 0.2.0, in development";
 
 fn main(rt: HostRuntime) -> ExitCode {
     let status = match words(&rt) {
@@ -70,19 +71,10 @@ fn asked<'a>(
                 }
                 None => Ok(invocation),
             },
-            Err(fault) => Err(tell_wrong(rt, &fault)),
+            Err(fault) => Err(tell_wrong(rt, words, &fault)),
         },
         Err(_) => Err(tell_failure(rt, "Memory")),
     }
-}
-
-/// Prints help on standard output, or the fault of the arguments on standard error. Returns the
-/// status.
-fn tell_wrong(rt: &HostRuntime, fault: &WordsFault) -> u8 {
-    if asks_help(fault) {
-        return tell_words(&mut rt.stdout(), fault);
-    }
-    tell_words(&mut Escaped::of_text(rt.stderr()), fault)
 }
 
 /// Prints the version, and returns the status.

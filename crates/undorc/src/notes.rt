@@ -1,10 +1,7 @@
 //! Messages about the lock and the run log beside the file of a session.
 use log::info;
-use rc_args::{Once, SessionCommand};
 use rc_launch::frontend::{tell_failure, tell_file, tell_no_history};
 use rc_launch::{FileText, LiveText, Note, OpenFault, Opened, left_report};
-use rc_script::SessionLine;
-use rc_session::Command;
 use rc_streams::inherited::Unfit;
 use rc_streams::messages::{HINT, MESSAGE, Messages};
 use rc_streams::run_file;
@@ -26,30 +23,24 @@ pub fn tell_note(rt: &HostRuntime, note: &Note<'_>) {
     }
 }
 
-/// Reports a file of `-b` that is not used because the session has a database of its own. Also
-/// reports an update that was cut short, if the command takes nothing of it back.
+/// Reports a file of `-b` that is not used because the session has a database of its own, and a
+/// file of `-l` that is only looked at and does not exist. Also reports an update or a restart that
+/// was cut short, if the command takes nothing of it back.
 pub fn tell_session(rt: &HostRuntime, opened: &Opened<'_>) {
     if let Some(path) = opened.unused_base() {
         info!(Messages(rt); target: MESSAGE,
             "{path} is not the database of this session: undorc update carries it over");
     }
-    if opened.moves() && opened.is_passed(rt.alloc()) && goes_on_from(opened.command()) {
-        info!(Messages(rt); target: MESSAGE,
-            "an update was not finished: undorc undo takes it back");
+    if let (false, Some(path), Ok(None)) = (
+        opened.moves(),
+        opened.session().live,
+        opened.live().found(),
+    ) {
+        info!(Messages(rt); target: MESSAGE, "{path} does not exist: nothing is up");
     }
-}
-
-/// Returns true if a command goes on from a state that is passed, and makes it one to stop at.
-fn goes_on_from(command: &SessionCommand<'_>) -> bool {
-    match command {
-        SessionCommand::Line(request) => matches!(
-            &request.once,
-            Once::Line(SessionLine::Command(
-                Command::Change(_) | Command::Add(..) | Command::Delete(..)
-            ))
-        ),
-        SessionCommand::Lines(_) | SessionCommand::Restart(_) | SessionCommand::Seal(_) => true,
-        SessionCommand::Update(_) | SessionCommand::Status(_) => false,
+    if opened.moves() && opened.goes_on_from_passed(rt.alloc()) {
+        info!(Messages(rt); target: MESSAGE,
+            "an update or a restart was not finished: undorc undo takes it back");
     }
 }
 

@@ -306,6 +306,39 @@ answers 1 'refused Unknown nobody\n' 'nothing is named nobody; undorc db list al
 answers 1 'refused NothingToUndo\n' 'no change is left to undo; undorc journal prints those that are kept' '' undo -b db -x none
 answers 1 'refused NothingToRedo\n' 'no change is undone; undorc journal prints where the session stands' '' redo -b db -x none
 answers 1 'refused PruneNeedsUp\n' '-p goes with neither -d nor -D' '' change -pd -b db -x none web
+answers 1 'refused IsAtomic web\n' 'a service has this name, and only bundles are added and deleted' '' add -b db -l bundled web disk
+answers 1 'refused Missing nobody\n' 'no bundle has this name; undorc bundles prints them' '' delete -b db -l bundled nobody
+answers 1 'refused Exists all\n' 'a bundle has this name; -f replaces it' '' add -b db -l bundled all disk
+
+# A command that other programs have, or that was meant, is named after a wrong command line.
+# means HELP WORDS..
+means() {
+    wants "  $1\n" ''
+    shift
+    runs "$@"
+    tail -n 1 err > out
+    : > err
+    judge "undorc $*, which is no command" 100
+}
+means 'undorc change NAME brings services up' start web
+means 'undorc change NAME brings services up' up web
+means 'undorc change -d NAME brings services down' down web
+means 'undorc change -d NAME brings services down; undorc stop calls a command off' stop web
+means 'undorc live prints what is up; undorc db list all prints all names' list
+means 'undorc version prints the version' --version
+means 'undorc version prints the version' -V
+
+# Who looks at a session whose file does not exist is told so.
+for words in live bundles journal status 'undo -n'; do
+    # The words stand apart.
+    # shellcheck disable=SC2086
+    runs $words -b db -l none
+    head -n 1 err > out
+    wants 'undorc: none does not exist: nothing is up\n' ''
+    : > err
+    ended=$(cat status)
+    judge "undorc $words, without the file of the session" "$ended"
+done
 
 # The file of a session that is none: not taken for the database, nor the database for it.
 "$program" change web disk -b db -x none -l state > out
@@ -325,7 +358,8 @@ sed 's/^now .*/now wbe/' state > other
 helps 1 'undorc: Unknown\n' 'other: a state names what is no service of the database' -- live -b db -l other
 sed 's/^services .*/services disk/' state > other
 helps 1 'undorc: OtherDb\n' 'other: the session of another database; name that one by -b, also for undorc update' -- live -b db -l other
-helps 1 'undorc: Bad 0\n' 'state is no database: undorc compile makes one' -- live -b state -l state
+helps 1 'undorc: Bad 0\n' 'state is the file of a session: -l names it, and -b a database' -- live -b state -l state
+helps 1 'undorc: Bad 0\n' 'db is a database: -b names it, and -l the file of a session' -- live -b db -l db
 helps 1 'undorc: Unknown wbe\n' 'nothing is named wbe; is web meant?' -- change web -b db -x up:wbe -l state
 helps 111 'undorc: Io\n' 'services: is a directory' -- live -b db -l services
 helps 111 'undorc: Io\n' 'nowhere/live.lock: no such file or directory' -- change web -b db -x none -l nowhere/live

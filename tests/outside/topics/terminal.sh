@@ -25,7 +25,7 @@ typed '' "$(announces 'the database and the services that are up')" "$none" plan
 typed '' "$(announces 'the services that are up')" '' plan -b base -D
 typed 'live\nat 0 of 1\n' "$(announces 'the database and the script')" "$none" replay
 typed 'live\nat 0 of 1\n' "$(announces 'the script')" '' replay -b base
-typed 'live\nok\n' "$(announces 'the database')" "$none" live -l live
+typed 'live\nok\n' "undorc: live does not exist: nothing is up\n$(announces 'the database')" "$none" live -l live
 typed 'live\nok\n' "$(announces "the database and the session's lines")" "${none}live\n" session -x none
 typed 'live\nok\n' '' 'live\n' session -b base -x none
 help='undorc: end the session with ^D; its lines are change, undo, redo, live, journal and more\n'

@@ -91,9 +91,19 @@ impl Write for Answers<'_> {
     }
 }
 
-/// Returns the hint for an answer that refuses a request, if it does not depend on a name.
+/// Returns the hint for an answer that refuses a request, if it does not depend on a database.
 fn refusal_hint(answer: &[u8]) -> Option<&'static str> {
-    match std::str::from_utf8(answer).ok()? {
+    let text = std::str::from_utf8(answer).ok()?;
+    if text.starts_with("refused IsAtomic ") {
+        return Some("a service has this name, and only bundles are added and deleted");
+    }
+    if text.starts_with("refused Missing ") {
+        return Some("no bundle has this name; undorc bundles prints them");
+    }
+    if text.starts_with("refused Exists ") {
+        return Some("a bundle has this name; -f replaces it");
+    }
+    match text {
         "refused NothingToUndo\n" => {
             Some("no change is left to undo; undorc journal prints those that are kept")
         }

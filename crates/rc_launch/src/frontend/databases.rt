@@ -65,6 +65,8 @@ fn bad_line(alloc: Global, path: &str, bytes: &[u8], offset: &str, form: &Form) 
     if bytes.starts_with(form.front) {
         said.add_number(line_at(bytes, offset));
         said.add_row(": ", not_due(bytes, offset), "");
+    } else if let Some(other) = other_kind(bytes) {
+        said.add(other);
     } else {
         let what = if bytes.is_empty() {
             ": an empty file is no "
@@ -75,6 +77,17 @@ fn bad_line(alloc: Global, path: &str, bytes: &[u8], offset: &str, form: &Form) 
         said.add_row(form.name, ": ", form.help);
     }
     said.hint()
+}
+
+/// Returns what a text is that stands in the place of one of another kind, if its front says so.
+fn other_kind(bytes: &[u8]) -> Option<&'static str> {
+    if bytes.starts_with(b"undorc-live ") || bytes.starts_with(b"undorc-history ") {
+        return Some(" is the file of a session: -l names it, and -b a database");
+    }
+    if bytes.starts_with(b"undorc-db ") {
+        return Some(" is a database: -b names it, and -l the file of a session");
+    }
+    None
 }
 
 /// Returns a hint of these texts in a row.

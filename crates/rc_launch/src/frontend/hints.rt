@@ -196,6 +196,7 @@ fn plain_hint(word: &str, rest: &str, is_file: bool) -> Option<&'static str> {
         "PruneNeedsUp" => Some("-p goes with neither -d nor -D"),
         "Read" => Some("standard input can't be read"),
         "Write" => Some("standard output can't be written"),
+        "BadLine" => Some("a script has a command a line, and behind it the events of its run"),
         _ => query_hint(word),
     }
 }
