@@ -264,9 +264,9 @@ class Situation:
             raise Wrong(f"{show(moved)} is not closed")
         if (moved[1] ^ recorded(self.bench.files()[1])) - unended:
             raise Wrong(f"{show(moved)} is up, and by the scripts {show(('', recorded(self.bench.files()[1])))}")
-        self.settled = self.bench.files()[0]
-        if set(self.settled) != {"live", "live.lock"}:
-            raise Wrong(f"left beside FILE: {' '.join(sorted(self.settled))}")
+        beside = self.bench.files()[0]
+        if set(beside) != {"live", "live.lock"}:
+            raise Wrong(f"left beside FILE: {' '.join(sorted(beside))}")
         return moved
 
     def undo(self, left, moved, unended):
@@ -275,31 +275,23 @@ class Situation:
         self.bench.put(*left)
         said = self.bench.run(["undo"])
         reached = self.bench.place()
-        if said.status != 0 or reached not in wanted:
+        if said.status != 0 or reached != wanted:
             raise Wrong(f"an undo, status {said.status}, from {show(moved)} to {show(reached)}: {said.out}{said.err}")
         if (reached[1] ^ recorded(self.bench.files()[1])) - unended:
             raise Wrong(f"after an undo {show(reached)} is up, and by the scripts {show(('', recorded(self.bench.files()[1])))}")
-        if reached != wanted[0]:
-            self.bench.run(["undo"])
-            if self.bench.place() != wanted[0]:
-                raise Wrong(f"a second undo, from {show(reached)} to {show(self.bench.place())}")
 
     def undone(self, moved):
-        """Where an undo may end. A restart that was cut has one entry or two, of which the first lowered one service or
-        both: a second undo ends where the restart began."""
+        """Where an undo ends. A restart that was done leaves no entry, so an undo takes back the command before it."""
         if self.again[0] == "restart":
-            is_begun = self.settled["live"] != self.clean["live"]
-            return [PLACES[self.at], ("one", set("ad")), ("one", set("abd"))] if is_begun else [PLACES[self.at - 1]]
+            return PLACES[self.at] if moved != PLACES[self.at] else PLACES[self.at - 1]
         if moved == PLACES[self.at] and not self.is_recovery:
-            return [PLACES[self.at - 1]]
+            return PLACES[self.at - 1]
         if self.end > self.at:
-            return [PLACES[self.at]]
-        return [PLACES[self.end - 1] if moved == PLACES[self.end] else PLACES[self.end]]
+            return PLACES[self.at]
+        return PLACES[self.end - 1] if moved == PLACES[self.end] else PLACES[self.end]
 
     def repeat(self, left, moved):
-        """The same command in place of that: it ends where the first one was to end. A restart is none of what is down."""
-        if self.again[0] == "restart":
-            return
+        """The same command in place of that: it ends where the first one was to end."""
         wanted, status = PLACES[self.end], 0
         if moved == wanted and self.again[0] == "undo":
             wanted = PLACES[self.end - 1]
@@ -323,7 +315,6 @@ class Situation:
             if self.whole_place != PLACES[self.end]:
                 raise Wrong(f"{self.words}: {show(self.whole_place)}")
             self.settle(self.start, set())
-        self.clean = self.settled
         return found
 
     def under(self):

@@ -3,11 +3,12 @@
 
     tests/outside/kills.py PROGRAM [ROUNDS [SEED]]
 
-Scripts of 40 services record what they did. Each round begins a change, an undo, a redo, an update, or a session of
-three lines, and kills it, or the recovery of an earlier one, at a random moment. After the next command the file of the
-session agrees with what the scripts recorded, but for what was under way; what is live is closed; nothing is refused as
-unfit; and an undo takes the entry back. An update that was killed is now and then given again, which leaves up what it
-found up; or it is undone, which restores that and the database. The last line is 'N passed, M failed'.
+Scripts of 40 services record what they did. Each round begins a change, an undo, a redo, an update, a restart, or a
+session of three lines, and kills it, or the recovery of an earlier one, at a random moment. After the next command the
+file of the session agrees with what the scripts recorded, but for what was under way; what is live is closed; nothing is
+refused as unfit; and an undo takes the entry back. An update or a restart that was killed is now and then given again,
+which leaves up what it found up; or it is undone, which restores that and the database. The last line is
+'N passed, M failed'.
 """
 
 import os
@@ -134,7 +135,7 @@ def command(machine):
     """A command drawn at random, and its input."""
     draw, names = machine.draw, machine.names
     workers = str(draw.choice([1, 3, 8]))
-    kind = draw.choice(["change", "lower", "prune", "undo", "redo", "update", "session"])
+    kind = draw.choice(["change", "lower", "prune", "undo", "redo", "update", "restart", "session"])
     if kind == "change":
         return ["change", "-w", workers, *draw.sample(names, 8)], ""
     if kind == "lower":
@@ -146,6 +147,9 @@ def command(machine):
     if kind == "update":
         other = machine.bases[1 - machine.bases.index(machine.base)]
         return ["update", "-B", other, "-w", workers], ""
+    if kind == "restart":
+        up = sorted(machine.live()) or names
+        return ["restart", "-w", workers, *draw.sample(up, min(len(up), 2))], ""
     lines = "".join(f"change {' '.join(draw.sample(names, 3))}\n" for _ in range(3))
     return ["session", "-w", workers], lines
 
@@ -194,6 +198,15 @@ def repeat(machine, words, base, before):
         raise Wrong(f"the update again, status {said.returncode}: {' '.join(sorted(lost))}: {said.stdout}{said.stderr}")
 
 
+def restart_again(machine, words, before):
+    """A restart that was killed, given again: what was up before it is up."""
+    said = machine.run(*words)
+    up = machine.live()
+    machine.agree(up)
+    if said.returncode != 0 or up != before:
+        raise Wrong(f"the restart again, status {said.returncode}: {' '.join(sorted(up ^ before))}: {said.stdout}{said.stderr}")
+
+
 def take_back(machine, base, before):
     """An undo of an update that was killed: what was up before it is up, by the database of then."""
     undo(machine, before)
@@ -216,15 +229,20 @@ def round_of(machine):
     if not is_next:
         machine.cut_short(["change"], "", machine.draw.uniform(0.0, 0.01))
     wait_for_orphans()
-    if words[0] == "update" and is_next and not is_passed and machine.draw.random() < 0.4:
+    if words[0] in ("update", "restart") and is_next and not is_passed and machine.draw.random() < 0.4:
         machine.agree(machine.done())
-        repeat(machine, words, base, before)
+        if words[0] == "update":
+            repeat(machine, words, base, before)
+        else:
+            restart_again(machine, words, before)
         return False
     told = settle(machine)
     judge(machine, words, unended)
     is_entered = "Recovered" in told
     # A change on a passed state that was cut leaves one, and an undo goes on from that.
     if is_entered and words[0] == "change" and not is_passed and machine.live() != before and machine.draw.random() < 0.3:
+        undo(machine, before)
+    if words[0] == "restart" and not is_passed and machine.live() != before and machine.draw.random() < 0.5:
         undo(machine, before)
     was_history = text.startswith(b"undorc-history ")
     if words[0] == "update" and was_history and not is_passed and read(machine.live_file) != text and machine.draw.random() < 0.6:

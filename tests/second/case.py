@@ -43,6 +43,12 @@ class Case:
         moves = self.word in RUNS + EDITS + ("session", "update", "restart", "seal") and not self.dry
         return moves and self.keeps and not self.early
 
+    @property
+    def looks_at_none(self):
+        """Whether it only looks at a session whose file does not exist."""
+        looks = self.word in ONE_SHOTS + ("status", "update") and not self.locks
+        return looks and self.keeps and self.kept is None
+
     def files(self, kept):
         """What lies in the folder in the end."""
         names = [b"in", b"out", b"err"] + [b"tree%d" % k for k in range(len(self.trees))]

@@ -78,10 +78,8 @@ class HistoryDrawer(Drawer):
             if unknown or case.word == "update" and (case.restarts or case.renames is not None):
                 return True
         # A session that goes on from a passed state leaves it one, if it began on another, or the state was the only one.
-        if case.word == "session" and (now.is_first_passed or now.is_last_passed):
-            return now.is_passed() or b"undo" in case.own or b"redo" in case.own
-        # A redo that ends on a passed state is shown as one that is refused.
-        return case.word == "redo" and case.dry and history.generations[-1].is_last_passed
+        may_leave = case.word == "session" and (now.is_first_passed or now.is_last_passed)
+        return may_leave and (now.is_passed() or b"undo" in case.own or b"redo" in case.own)
 
     def filled(self, case, base):
         """What else a command is given."""

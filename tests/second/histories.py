@@ -10,7 +10,8 @@ from forms import Lines, Refusal, is_name, is_number
 
 GREATEST = 8
 NOT_THIS = b"undorc: base is not the database of this session: undorc update carries it over\n"
-NOT_FINISHED = b"undorc: an update was not finished: undorc undo takes it back\n"
+NO_FILE = b"undorc: kept does not exist: nothing is up\n"
+NOT_FINISHED = b"undorc: an update or a restart was not finished: undorc undo takes it back\n"
 
 
 class Generation:
@@ -103,9 +104,31 @@ class History:
                 now.is_first_passed = False
         return said
 
+    def step(self, command, do_one):
+        """A step of a command of several: the state that it comes to is passed, unless it goes back. What comes after goes."""
+        now, line = self.now(), self.now().line
+        states, at, is_first_passed = list(line.states), line.cursor, now.is_first_passed
+        said = do_one(self, command)
+        if line.cursor == at and line.states[at] is states[at]:
+            return said
+        is_kept = line.states[0] is states[0]
+        is_back = is_kept and line.cursor < at
+        del line.states[line.cursor + 1 :]
+        del self.generations[self.at + 1 :]
+        now.is_first_passed = is_kept and is_first_passed
+        now.is_last_passed = not is_back
+        if len(line.states) == 1:
+            now.is_last_passed = now.is_first_passed
+        return said
+
     def can_step(self, way):
         at = self.now().line.cursor + way
         return 0 <= at < len(self.now().line.states) or 0 <= self.at + way < len(self.generations)
+
+    def is_cut_inside(self):
+        """Whether the current state is passed, and an undo from there crosses no border."""
+        at = self.now().line.cursor
+        return self.now().is_passed() and (at > 1 or at == 1 and not self.now().is_first_passed)
 
     def travel(self, command, do_one):
         """An undo or a redo: a step, and on while the state that is reached was only passed. The answers, without those of

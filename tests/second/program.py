@@ -74,7 +74,8 @@ def begun(case, answer):
         if case.base != history.now().text:
             answer.fault = histories.NOT_THIS
         elif case.locks and case.word not in ("undo", "redo") and history.now().is_passed():
-            answer.fault = histories.NOT_FINISHED
+            if case.word != "restart" or not history.is_cut_inside():
+                answer.fault = histories.NOT_FINISHED
         first_missing(history.bases(case.word.encode()), case.failing)
         return history, case.input
     base, text = base_and_input(case)
@@ -141,21 +142,26 @@ def reports_of(way_of, text):
 
 
 def restart(case, answer):
-    """What is named and up goes down, with all that needs it, and what went down comes up."""
+    """What is named and up goes down, with all that needs it, and an undo brings it back. What was cut short is taken back
+    before."""
     history, _ = begun(case, answer)
-    was = set(history.now().line.now().live)
+    history.is_plain = False
     do_one = doing(case, answer)
+    is_taken = history.is_cut_inside()
+    if is_taken:
+        answer.out = history.travel(Command(b"undo"), do_one)
+    if not has_failed(answer.out):
+        was = set(history.now().line.now().live)
+        try:
+            answer.out += history.step(Command(b"change", ask=plans.Ask("D", 0, case.words)), do_one)
+            if history.now().line.now().live != was:
+                answer.out += history.step(Command(b"undo"), do_one)
+        except Refusal as refusal:
+            answer.out += b"refused " + refusal.text + b"\n"
+            answer.status = 2 if is_taken else 1
     answer.kept = history.written()
-    try:
-        answer.out = do_one(history, Command(b"change", ask=plans.Ask("D", 0, case.words)))
-    except Refusal as refusal:
-        answer.out = b"refused " + refusal.text + b"\n"
-        answer.status = 1
-        return
-    again = sorted(was - history.now().line.now().live)
-    answer.out += do_one(history, Command(b"change", ask=plans.Ask("u", 0, again)))
-    answer.kept = history.written()
-    answer.status = 2 if has_failed(answer.out) else 0
+    if has_failed(answer.out):
+        answer.status = 2
 
 
 def seal(case, answer):
@@ -217,6 +223,8 @@ def run(case):
         answer.status = 100
         answer.fault = b"undorc: -l is missing, or UNDORC_LIVE: the file that keeps what is up\n"
         return answer
+    if case.word != "update" and case.looks_at_none:
+        answer.fault = histories.NO_FILE
     try:
         run_of(case, answer)
     except Refusal as refusal:

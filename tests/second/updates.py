@@ -82,6 +82,8 @@ def update(case, answer, do_one):
     case.early = True
     found = conversions(case)
     case.early = False
+    if case.looks_at_none:
+        answer.fault = histories.NO_FILE
     is_history = histories.is_history(case.kept)
     old = histories.read(case.kept).now().base if is_history else database.read(case.base, True)[0]
     new = database.read(case.other, True)[0]

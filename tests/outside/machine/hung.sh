@@ -46,8 +46,9 @@ for kind in '' container; do
     end_within 90
     is "$what: the end" "$ended" "$status"
     is "$what: it ends within 55 s" yes "$([ $(($(date +%s) - begun)) -gt 55 ] || echo yes)"
+    # If the boot goes on to its next command, that is called off, too.
     is "$what: the shutdown brings down what is up" 'lowered d mnt,shutdown: calls off,' \
         "$(sed -n -e 's/\(shutdown: calls off\) process .*/\1/p' -e '/^lowered /p' \
-            -e '/shutdown.* status [1-9]/p' <&7 | sort | tr '\n' ,)"
+            -e '/shutdown.* status [1-9]/p' <&7 | sort -u | tr '\n' ,)"
     exec 7<&-
 done

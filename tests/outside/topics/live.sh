@@ -382,7 +382,7 @@ for session in $(seq 40); do
         # shellcheck disable=SC2046
         "$program" session -b "$session.base" -l live $(cat "$session.$many.words") < "$session.$many" || echo "status $?"
     done > said 2>&1
-    firsts said | cmp -s - "$session.wanted" || unlike=$((unlike + 1))
+    firsts said | grep -v 'live does not exist' | cmp -s - "$session.wanted" || unlike=$((unlike + 1))
 done
 [ "${gone% *}" -gt 2 ] && [ "${gone#* }" -gt 2 ] || unlike=$((unlike + 1))
 : > out

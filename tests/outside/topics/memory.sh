@@ -204,18 +204,31 @@ one_shot redo redo -x none
 one_shot '' change -n b
 one_shot '' live
 
-# A history that is sealed, and a restart: on file is one of the texts in turn.
+# A history that is sealed: on file is the text before, or that after.
 cp text.none.0 live
 "$program" seal -b base -l live > whole.none
 mv live text.none.1
 each $((from > 0 ? 20 : 100)) "$ample$memory" 'answers kept' seal -b base
+
+# begun MARK SESSION: the text of a history of the old database
+begun() {
+    printf 'undorc-history 1\nat 0 of 1\ngeneration stop %s\ndatabase %d\n' "$1" "$(wc -c < base)"
+    cat base
+    printf 'session %d\n' "$(wc -c < "$2")"
+    cat "$2"
+    printf 'renames 0\nend\n'
+}
+# A restart. On file is the text before, alone and in a history; that without the service, which is passed; and that in a
+# history again.
 cp text.none.0 live
 "$program" restart a -b base -x none -l live > whole.none
 mv live text.none.2
 cp text.none.0 live
 "$program" change -D a -b base -x none -l live > made
-mv live text.none.1
+begun passed live > text.none.1
+begun stop text.none.0 > text.none.0.then
 each $((from > 0 ? 20 : 100)) "$ample$memory" 'answers kept' restart a -b base -x none
+rm text.none.0.then live
 
 # Where services stand, by the file and the log of a run: both are only read, and the answer is whole, or
 # nothing is written.
@@ -245,14 +258,6 @@ each 20 "$ample$memory" 'answers kept scripts' session -b base -P -w 1
 rm text.* whole.*
 sed '/^service b /{n;s/^needs a$/needs/;}' base > new
 : > in
-# begun MARK SESSION: the text of a history of the old database
-begun() {
-    printf 'undorc-history 1\nat 0 of 1\ngeneration stop %s\ndatabase %d\n' "$1" "$(wc -c < base)"
-    cat base
-    printf 'session %d\n' "$(wc -c < "$2")"
-    cat "$2"
-    printf 'renames 0\nend\n'
-}
 for at in 0 1 1.then 2; do
     [ "$at" = 0 ] || cp text.none.0 live
     case $at in

@@ -149,13 +149,13 @@ echo first > broken/second/dependencies
 expect 2 'failed first\nblocked second\nok\n' '' '' change second -b broken.db -l broken.live
 
 # With -x and -n a command needs no file, and begins with nothing up; without -b the database is that of the input.
-expect 0 'live\nok\n' '' '' live -b base -l missing
+expect 0 'live\nok\n' 'undorc: missing does not exist: nothing is up\n' '' live -b base -l missing
 expect 1 'refused NothingToUndo\n' '' '' undo -b base -x none
 expect 1 'refused NothingToUndo\n' '' '' undo -n -b base
 expect 0 'raised net root\nok\n' '' "$sample" change net -x none
 expect 0 'raise net root\nok\n' '' "${sample}what is behind it\n" change -n net
-expect 0 'at 0 of 1\nok\n' '' "$sample" journal -l missing
-expect 1 '' 'undorc: Bad 0\n' '' live -l missing
+expect 0 'at 0 of 1\nok\n' 'undorc: missing does not exist: nothing is up\n' "$sample" journal -l missing
+expect 1 '' 'undorc: missing does not exist: nothing is up\nundorc: Bad 0\n' '' live -l missing
 
 # Files that can't be read, or not written: where something is only shown nothing is written.
 mkdir folder
@@ -169,15 +169,15 @@ expect 1 '' 'undorc: Bad 0\n' '' journal -b base -l notes
 expect 1 '' 'undorc: Bad 0\n' '' change net -b base -x none -l notes
 expect 1 '' 'undorc: Unknown nobody\n' '' change net -b base -x up:nobody -l live
 expect 111 '' 'undorc: Io\n' '' change net -b base -x none -l nowhere/live
-expect 0 'live\nok\n' '' '' live -b base -l nowhere/live
-expect 0 'raise net root\nok\n' '' '' change -n net -b base -l nowhere/live
+expect 0 'live\nok\n' 'undorc: nowhere/live does not exist: nothing is up\n' '' live -b base -l nowhere/live
+expect 0 'raise net root\nok\n' 'undorc: nowhere/live does not exist: nothing is up\n' '' change -n net -b base -l nowhere/live
 
 # A look makes no file where there is none, and no lock.
-expect 0 'live\nok\n' '' '' live -b base -l looked
-expect 0 'at 0 of 1\nok\n' '' '' journal -b base -l looked
-expect 0 'raise net root\nok\n' '' '' change -n net -b base -l looked
-expect 1 'refused NothingToUndo\n' '' '' undo -n -b base -l looked
-expect 1 'refused NothingToRedo\n' '' '' redo -n -b base -l looked
+expect 0 'live\nok\n' 'undorc: looked does not exist: nothing is up\n' '' live -b base -l looked
+expect 0 'at 0 of 1\nok\n' 'undorc: looked does not exist: nothing is up\n' '' journal -b base -l looked
+expect 0 'raise net root\nok\n' 'undorc: looked does not exist: nothing is up\n' '' change -n net -b base -l looked
+expect 1 'refused NothingToUndo\n' 'undorc: looked does not exist: nothing is up\n' '' undo -n -b base -l looked
+expect 1 'refused NothingToRedo\n' 'undorc: looked does not exist: nothing is up\n' '' redo -n -b base -l looked
 passed=$((passed + 1))
 for file in looked*; do
     [ ! -e "$file" ] || { passed=$((passed - 1)); failed=$((failed + 1)); echo "FAILED: a look made $file"; }
@@ -226,7 +226,7 @@ unset UNDORC_DB
 # One that is no text is named, and only to commands that use it.
 for variable in UNDORC_DB UNDORC_LIVE UNDORC_RUNNER UNDORC_CONTROLLER; do
     export "$variable=$strange"
-    expect 0 'undorc 0.2.0\n' '' '' version
+    expect 0 "$(grep -m 1 '^undorc ' "$top/NEWS")\n" '' '' version
     expect 0 'live\nok\n' '' '' live -b base -l live
     expect 0 'raised net root\nok\n' '' '' change net -b base -x none -l other.live
     case $variable in
@@ -239,7 +239,7 @@ for variable in UNDORC_DB UNDORC_LIVE UNDORC_RUNNER UNDORC_CONTROLLER; do
     rm other.live*
 done
 
-expect 0 'undorc 0.2.0\n' '' '' version
+expect 0 "$(grep -m 1 '^undorc ' "$top/NEWS")\n" '' '' version
 
 # From here on `net` and `root` are up.
 "$program" change net -b base -x none -l live > out

@@ -256,7 +256,7 @@ killed_update() {
 half next base
 expect 0 'at 1 of 2\n0 +a +b +slow\nok\n' 'undorc: Recovered\n' 'journal\n' session -b next -l live -x none
 half base next
-told='undorc: Recovered\nundorc: an update was not finished: undorc undo takes it back\n'
+told='undorc: Recovered\nundorc: an update or a restart was not finished: undorc undo takes it back\n'
 expect 0 'live a b\nok\n' "$told" 'live\n' session -b next -l live -x none
 # An update that is given again enters it, takes it back, and carries over.
 half next base

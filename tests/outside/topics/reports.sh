@@ -61,7 +61,7 @@ reports 1 '' 'undorc: NoController guard\n' change guard good -b scripts -l one
 hinted 'guard is a longrun; -c names its controller'
 passed=$((passed + 1))
 [ ! -e one ] || { passed=$((passed - 1)); failed=$((failed + 1)); echo 'FAILED: a change that is refused made its file'; }
-reports 0 'raise good guard\nok\n' '' change -n guard good -b scripts -l one
+reports 0 'raise good guard\nok\n' 'undorc: one does not exist: nothing is up\n' change -n guard good -b scripts -l one
 reports 0 'raised good guard\nok\n' '' change guard good -b scripts -l one -x none
 reports 1 '' 'undorc: NoController guard\n' undo -b scripts -l one
 reports 1 '' 'undorc: NoController guard\n' restart guard good -b scripts -l one

@@ -20,40 +20,58 @@ goes() {
 }
 
 starts web
-goes 0 'lowered web\nok\nraised web\nok\n' 'at 3 of 4\n0 +db +log +net +root +web\n1 -web\n2 +web\nok\n' web -x none
+goes 0 'lowered web\nok\nraised web\nok\n' 'at 1 of 2\n0 +db +log +net +root +web\nok\n' web -x none
 # With all that needs it, essential services too, and nothing else.
 starts web
-goes 0 'lowered db net web\nok\nraised db net web\nok\n' \
-    'at 3 of 4\n0 +db +log +net +root +web\n1 -db -net -web\n2 +db +net +web\nok\n' net -x none
+goes 0 'lowered db net web\nok\nraised db net web\nok\n' 'at 1 of 2\n0 +db +log +net +root +web\nok\n' net -x none
 starts web
-goes 0 'lowered db net root web\nok\nraised db net root web\nok\n' \
-    'at 3 of 4\n0 +db +log +net +root +web\n1 -db -net -root -web\n2 +db +net +root +web\nok\n' root -x none
+goes 0 'lowered db net root web\nok\nraised db net root web\nok\n' 'at 1 of 2\n0 +db +log +net +root +web\nok\n' \
+    root -x none
 # What is down stays down, also where it is named.
 starts net log
-goes 0 'lowered net\nok\nraised net\nok\n' 'at 3 of 4\n0 +log +net +root\n1 -net\n2 +net\nok\n' net web -x none
+goes 0 'lowered net\nok\nraised net\nok\n' 'at 1 of 2\n0 +log +net +root\nok\n' net web -x none
 starts net
-goes 0 'ok\nok\n' 'at 1 of 2\n0 +net +root\nok\n' log web -x none
-# Each half is an entry, and a bundle's name stands for its services.
+goes 0 'ok\n' 'at 1 of 2\n0 +net +root\nok\n' log web -x none
+# A bundle's name stands for its services. There is no entry, so an undo takes back the command before it, and a redo does
+# not lower anything.
 starts web
-goes 0 'lowered web\nok\nraised web\nok\n' 'at 3 of 4\n0 +db +log +net +root +web\n1 -web\n2 +web\nok\n' site -x none
-expect 0 'lowered web\nok\n' '' '' undo -b base -l live -x none
-expect 0 'raised web\nok\n' '' '' undo -b base -l live -x none
+goes 0 'lowered web\nok\nraised web\nok\n' 'at 1 of 2\n0 +db +log +net +root +web\nok\n' site -x none
+expect 1 'refused NothingToRedo\n' '' '' redo -b base -l live -x none
+expect 0 'lowered db log net root web\nok\n' '' '' undo -b base -l live -x none
+# What was undone before it can't be made again, unless it moves nothing.
+starts web
+"$program" undo -b base -l live -x none > setup
+"$program" change -b base -l live -x none net > setup
+"$program" change -b base -l live -x none log > setup
+"$program" undo -b base -l live -x none > setup
+goes 0 'ok\n' 'at 1 of 3\n0 +net +root\n1 +log\nok\n' web -x none
+goes 0 'lowered net\nok\nraised net\nok\n' 'at 1 of 2\n0 +net +root\nok\n' net -x none
 
 # What fails on the way down stays up with what it needs; what went down comes up all the same.
 starts web
-goes 2 'lowered web\nfailed db\nblocked net\nok\nraised web\nok\n' \
-    'at 3 of 4\n0 +db +log +net +root +web\n1 -web\n2 +web\nok\n' net -x down:db
+goes 2 'lowered web\nfailed db\nblocked net\nok\nraised web\nok\n' 'at 1 of 2\n0 +db +log +net +root +web\nok\n' \
+    net -x down:db
 starts web
-goes 2 'failed web\nok\nok\n' 'at 1 of 2\n0 +db +log +net +root +web\nok\n' web -x down:web
-# What fails on the way up stays down with what needs it.
+goes 2 'failed web\nok\n' 'at 1 of 2\n0 +db +log +net +root +web\nok\n' web -x down:web
+# What fails on the way up stays down with what needs it. An undo takes that back, and so does the next restart.
 starts web
 goes 2 'lowered db net web\nok\nraised net\nfailed db\nblocked web\nok\n' \
-    'at 3 of 4\n0 +db +log +net +root +web\n1 -db -net -web\n2 +net\nok\n' net -x up:db
+    'at 2 of 3\n0 +db +log +net +root +web\n1 -db -web\nok\n' net -x up:db
+cp live was
+expect 0 'raised db web\nok\n' '' '' undo -b base -l live -x none
+expect 0 'at 1 of 3\n0 +db +log +net +root +web\n1 -db -web\nok\n' '' '' journal -b base -l live
+cp was live
+goes 0 'raised db web\nok\nlowered web\nok\nraised web\nok\n' 'at 1 of 2\n0 +db +log +net +root +web\nok\n' web -x none
+cp was live
+goes 2 'raised db\nfailed web\nok\n' 'at 2 of 4\n0 +db +log +net +root +web\n1 -web\n2 -db\nok\n' net -x up:web
+# One that is refused behind that has status 2.
+cp was live
+goes 2 'raised db web\nok\nrefused Unknown nobody\n' 'at 1 of 3\n0 +db +log +net +root +web\n1 -db -web\nok\n' \
+    nobody -x none
 
 # What is refused moves nothing.
 starts web
 cp live was
-goes 1 'refused Unknown nobody\n' 'at 1 of 2\n0 +db +log +net +root +web\nok\n' web nobody -x none
 expect 1 '' 'undorc: Unknown nobody\n' '' restart web -b base -l live -x up:nobody
 printf '%b' "$none" > other
 expect 1 '' 'undorc: OtherDb\n' '' restart web -b other -l live -x none
@@ -64,6 +82,7 @@ expect 111 '' 'undorc: Busy\n' '' restart web -b base -l live -x none
 exec 7>&-
 cmp -s live was || echo 'the file differs' >> out
 judge 'a restart that is refused' 111
+goes 1 'refused Unknown nobody\n' 'at 1 of 2\n0 +db +log +net +root +web\nok\n' web nobody -x none
 wrong restart
 wrong restart -b base -l live
 wrong restart web -b base

@@ -265,7 +265,7 @@ rm -f nothing
 expect 0 'ok\nok\n' '' '' update -b old -B new -l nothing
 expect 0 'live\nok\n' '' '' live -b new -l nothing
 rm -f nothing nothing.lock
-expect 0 'ok\nok\n' '' '' update -n -b old -B new -l nothing
+expect 0 'ok\nok\n' 'undorc: nothing does not exist: nothing is up\n' '' update -n -b old -B new -l nothing
 find . -name 'nothing*' > made
 : > none
 same_files 'update -n makes no file' none made
@@ -431,10 +431,15 @@ expect 0 'live a b c d\nok\n' '' '' live -b old -l live
 fresh
 update 2 'lowered b c e\nok\nfailed b\nblocked c\nok\n' '' -x up:b
 kept ' a d' "$all"
-expect 0 'raised b c\nok\n' 'undorc: an update was not finished: undorc undo takes it back\n' '' change c -b new -x none -l live
+expect 0 'raised b c\nok\n' 'undorc: an update or a restart was not finished: undorc undo takes it back\n' '' change c -b new -x none -l live
 fresh
 update 2 'lowered b c e\nok\nraised b\nfailed c\nok\n' '' -x up:c
 kept ' a b d' 'at 1 of 2\n0 +b'
+expect 0 'lowered b\nok\nraised b c e\nok\n' '' '' undo -b new -x none -l live
+# A restart takes none of it back.
+fresh
+update 2 'lowered b c e\nok\nraised b\nfailed c\nok\n' '' -x up:c
+expect 0 'lowered b\nok\nraised b\nok\n' 'undorc: an update or a restart was not finished: undorc undo takes it back\n' '' restart b -b new -x none -l live
 expect 0 'lowered b\nok\nraised b c e\nok\n' '' '' undo -b new -x none -l live
 fresh
 update 2 'lowered b c e\nok\nraised b\nfailed c\nok\n' '' -x up:c,down:f,down:a,up:a
