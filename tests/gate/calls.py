@@ -8,8 +8,8 @@ import re
 
 TOP = pathlib.Path(__file__).resolve().parents[2]
 NAMES = re.compile(r"`([a-z_]+)`")
-LINES = re.compile(r"From `main` to a run of a session line are (\d+) functions: (.*?)\. A one-shot command goes from "
-                   r"(.*?): (\d+)\.")
+LINES = re.compile(r"A session line passes through (\d+) functions from `main` to its run: (.*?)\. "
+                   r"A one-shot command goes from (.*?): (\d+) functions\.")
 
 
 def bodies():

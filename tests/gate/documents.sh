@@ -19,7 +19,7 @@ awk '/^```/ { if (inside) exit; inside = 1; next } inside && $1 ~ /^(rc_|undorc)
     "$top/docs/ARCHITECTURE.md" > found
 equals 'the tree of docs/ARCHITECTURE.md'
 cp testing wanted
-grep '^Tests stand at the top' "$top/docs/ARCHITECTURE.md" | grep -o '`scenarios`' | tr -d '`' > found
+grep '^The test program .* stands at the top' "$top/docs/ARCHITECTURE.md" | grep -o '`scenarios`' | tr -d '`' > found
 equals 'the tests of docs/ARCHITECTURE.md'
 # The program itself promises nothing of its own.
 grep -v -x undorc product > wanted
@@ -92,6 +92,14 @@ if python3 "$top/tests/gate/columns.py" --check; then
 else
     failed=$((failed + 1))
     echo 'FAILED: lines are too long (tests/gate/columns.py breaks them)'
+fi
+
+# The comment of a function says what it does.
+if python3 "$top/tests/gate/comments.py"; then
+    passed=$((passed + 1))
+else
+    failed=$((failed + 1))
+    echo 'FAILED: comments of functions begin with a question word or an article'
 fi
 
 # The list of definitions, which is not kept, can be made: it has each module of rc_model with a definition.
