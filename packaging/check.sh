@@ -37,7 +37,7 @@ gives() {
 
 for news in "$here/../NEWS" "$samples/../../NEWS"; do
     cat "$news" 2> /dev/null || zcat "$news.gz" 2> /dev/null || true
-done | sed -n 's/^undorc \([0-9.]*\),.*/undorc \1/p' | head -n 1 > wanted
+done | sed -n '/^undorc [0-9]/p' | head -n 1 > wanted
 gives 'version' 0 "$program" version
 cp "$samples/sample.txt" wanted
 gives 'compile' 0 "$program" compile "$samples/source"
