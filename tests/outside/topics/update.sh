@@ -426,6 +426,9 @@ kept ' a b c d' "$back"
 fresh
 update 2 'lowered e\nfailed c\nblocked b\nok\n' '' -x down:c
 expect 0 'live a b c d\nok\n' '' '' live -b old -l live
+# It has not reached the new database, so a restart takes it back first, and then does its own work.
+expect 0 'raised e\nok\nlowered e\nok\nraised e\nok\n' '' '' restart e -b old -x none -l live
+expect 0 'live a b c d e\nok\n' '' '' live -b old -l live
 
 # What fails on its way up is not up in the new database, whose journal goes on from there.
 fresh
