@@ -34,5 +34,7 @@ mod Standings
 mod SessionLines
 -- The present generation of a history is one.
 mod Presents
+-- Why calls fail, put together from what the calls below them say.
+mod Failing
 -- The marks of the present generation, once it is left or its state is a stop.
 mod Marked

@@ -1,15 +1,19 @@
 -- The present generation of a history is one.
-use Rattle.std.proofs.Common.{◌≡◌, ◌∙◌, ◌<◌, ℕ, zero, suc, List, [], ◌∷◌, length}
+use Rattle.std.proofs.Common.{◌≡◌, ◌∙◌, ◌+◌, ◌<◌, ℕ, zero, suc, List, [], ◌∷◌, ◌++◌, length}
 use Rattle.std.proofs.Common.{Some, slice_get, ap, arith, refl, sym}
 use Rattle.std.proofs.lemmas.List.Elements.{All-nil, All-cons}
-use Rattle.std.proofs.lemmas.List.{append-nil}
+use Rattle.std.proofs.lemmas.List.{append-nil, length-take}
 use Rattle.rc_historytext.specs.Text.{GenerationText, HistoryText, IsGenerationText, IsHistoryText}
 use Rattle.rc_historytext.specs.Text.{IsRename, IsShort, history_text}
-use Rattle.rc_historytext.specs.Updating.{first_generation, history_of}
+use Rattle.rc_historytext.specs.Updating.{BeginsBehind, IsBegun, first_generation, history_of}
+use Rattle.rc_historytext.specs.Moves.{begun, without_later, without_oldest}
 use Rattle.rc_historytext.specs.Present.{IsAt, IsPresent}
+use Rattle.rc_historytext.specs.Keeping.{StandsThere}
+use Rattle.rc_historytext.proofs.Kept.{as_oldest_count}
+use Rattle.rc_historytext.proofs.Moving.{eight_or_not}
 use Rattle.rc_historytext.proofs.OneFault.{text_once}
 
-some_once : (g h : GenerationText) → Some g ≡ Some h → g ≡ h
+pub some_once : (g h : GenerationText) → Some g ≡ Some h → g ≡ h
 some_once g h same = cc
 
 -- bytes are the text of one history, with one present generation
@@ -58,3 +62,53 @@ first_kept database session short few = record {
       (All-nil IsGenerationText);
   oldest = refl;
 }
+
+-- it is the present one
+pub first_stands : (database session kept : List ℕ) → IsBegun database session kept
+    → StandsThere kept session
+first_stands database session kept (is, spelled) = (
+  database,
+  (
+    history_of (first_generation database session),
+    first_generation database session,
+    record { is = is; spelled = spelled; there = refl },
+    refl,
+    refl,
+  ),
+)
+
+-- the generation at the end
+at_end : (gs : List GenerationText) (g : GenerationText) (k : ℕ) → k ≡ length gs
+    → slice_get (gs ++ g ∷ []) k ≡ Some g
+at_end [] g zero here = refl
+at_end [] g (suc k) here = absurd (omega (arith, here))
+at_end (f ∷ gs) g zero here = absurd (omega (arith, here))
+at_end (f ∷ gs) g (suc k) here = at_end gs g k (omega (arith, here))
+
+-- a generation that begins is the present one
+begun_there : (t : HistoryText) (g : GenerationText) → t.present < length t.generations
+    → slice_get (begun t g).generations (begun t g).present ≡ Some g
+begun_there t g low =
+    eight_or_not (λ kept. slice_get (kept.generations ++ g ∷ []) (kept.present + 1) ≡ Some g)
+    (without_later t)
+    (λ eight.
+    at_end (without_oldest (without_later t)).generations g
+    ((without_oldest (without_later t)).present + 1)
+    (omega (arith, eight, last, as_oldest_count (without_later t).generations)))
+    (λ other. at_end (without_later t).generations g (t.present + 1) last)
+  where
+    last : t.present + 1 ≡ length (without_later t).generations
+    last = omega (arith, low, length-take (t.present + 1) t.generations)
+
+pub begun_stands : (bytes kept : List ℕ) (g : GenerationText) → BeginsBehind bytes g kept
+    → StandsThere kept g.session
+begun_stands bytes kept g (t, is, stands, new, spelled) = (
+  g.database,
+  (
+    begun t g,
+    g,
+    record { is = new; spelled = spelled; there = begun_there t g is.present },
+    refl,
+    refl,
+  ),
+)

@@ -20,6 +20,8 @@ pub mod Marking
 pub mod Keeping
 -- What an update makes of the text of a history, step by step.
 pub mod Updating
+-- Why the calls that say where a history stands, or that make its text, fail.
+pub mod CallFaults
 -- Which history a text tells.
 pub mod Telling
 -- Which line is due where, for reading alone: that it is what the texts say is a lemma.

@@ -3,11 +3,14 @@
 //! are dropped.
 //!
 //! Time and memory grow with all bytes.
-ghost use Rattle.std.specs.Prelude.{◌≡◌, ◌↔◌, slice_get, Some, IfOk, IsTrue, OnOk};
+ghost use Rattle.std.specs.Prelude.{◌≡◌, ◌↔◌, ◌⊎◌, slice_get, Some, IfErr, IfOk, IsTrue, OnOk};
 ghost use Rattle.rc_historytext.specs.Text.{GenerationText, IsHistoryText, IsShort, history_text};
 ghost use Rattle.rc_historytext.specs.Keeping.{IsKept, IsKeptStep, IsPut, IsPutOnce};
 ghost use Rattle.rc_historytext.specs.Keeping.{PutsInto, StandsThere};
 ghost use Rattle.rc_historytext.specs.Keeping.{cut_earlier, cut_later, left_by};
+ghost use Rattle.rc_historytext.specs.Faults.{IsHistoryFault};
+ghost use Rattle.rc_historytext.specs.CallFaults.{IsKeepFault, IsOutOfMemory, IsSessionFault};
+ghost use Rattle.rc_historytext.specs.CallFaults.{IsText};
 
 use crate::fault::HistoryFault;
 use crate::forms::HistoryForm;
@@ -40,7 +43,8 @@ pub fn keep_session(
     session: &[u8],
     keeping: Keeping,
 ) -> Result<Vec<u8>, HistoryFault>
-    ensures { IfOk result (λ text. IsKept keeping history.now session.now text.items) }
+    ensures ok { IfOk result (λ text. IsKept keeping history.now session.now text.items) }
+    ensures fault { IfErr result (IsKeepFault history.now session.now) }
 {
     match keeping {
         Keeping::Command => put_once(alloc, history, session, Keeping::Command),
@@ -53,7 +57,8 @@ pub fn keep_session(
 // Returns the text of a history after a step has left the given session in its present generation.
 // A step cuts off the states after the current one, unless it has moved nothing yet.
 fn keep_step(alloc: Global, history: &[u8], session: &[u8]) -> Result<Vec<u8>, HistoryFault>
-    ensures { IfOk result (λ text. IsKeptStep history.now session.now text.items) }
+    ensures ok { IfOk result (λ text. IsKeptStep history.now session.now text.items) }
+    ensures fault { IfErr result (IsKeepFault history.now session.now) }
 {
     if stands_there(alloc, history, session)? {
         return copy(alloc, history);
@@ -72,7 +77,8 @@ fn put_once(
     session: &[u8],
     keeping: Keeping,
 ) -> Result<Vec<u8>, HistoryFault>
-    ensures { IfOk result (λ text. IsPutOnce keeping history.now session.now text.items) }
+    ensures ok { IfOk result (λ text. IsPutOnce keeping history.now session.now text.items) }
+    ensures fault { IfErr result (IsKeepFault history.now session.now) }
 {
     if stands_there(alloc, history, session)? {
         return copy(alloc, history);
@@ -82,7 +88,9 @@ fn put_once(
 
 // Returns true if the present session of a history has the given text.
 fn stands_there(alloc: Global, history: &[u8], session: &[u8]) -> Result<bool, HistoryFault>
-    ensures { IfOk result (λ stands. IsTrue stands ↔ StandsThere history.now session.now) }
+    ensures ok { IfOk result (λ stands. IsTrue stands ↔ StandsThere history.now session.now) }
+    ensures text { IfOk result (λ _. IsText history.now) }
+    ensures fault { IfErr result (IsHistoryFault history.now) }
 {
     let present = present_of(alloc, history)?;
     Ok(present.session == session)
@@ -95,7 +103,8 @@ fn put_session(
     session: &[u8],
     keeping: Keeping,
 ) -> Result<Vec<u8>, HistoryFault>
-    ensures { IfOk result (λ text. IsPut keeping history.now session.now text.items) }
+    ensures ok { IfOk result (λ text. IsPut keeping history.now session.now text.items) }
+    ensures fault { IfErr result (IsKeepFault history.now session.now) }
 {
     let mut form = read_history(alloc, history)?;
     match put(alloc, &mut form, session, keeping) {
@@ -116,9 +125,12 @@ fn put<'a>(
     keeping: Keeping,
 ) -> Result<(), HistoryFault>
     requires { IsHistoryText form.old }
-    ensures { OnOk result ((g : GenerationText)
+    ensures ok { OnOk result ((g : GenerationText)
         → slice_get form.old.generations form.old.present ≡ Some g
         → PutsInto keeping form.old g session.now form.new) }
+    ensures fault { IfErr result (λ fault. (g : GenerationText)
+        → slice_get form.old.generations form.old.present ≡ Some g
+        → IsSessionFault g.session fault ⊎ IsSessionFault session.now fault) }
 {
     if !is_short(session) {
         return Err(HistoryFault::Memory);
@@ -173,7 +185,8 @@ pub(crate) fn is_short(text: &[u8]) -> bool
 
 /// Returns the text of a history, and drops the history.
 pub(crate) fn written(alloc: Global, form: HistoryForm<'_>) -> Result<Vec<u8>, HistoryFault>
-    ensures { IfOk result (λ text. text.items ≡ history_text form.entry) }
+    ensures ok { IfOk result (λ text. text.items ≡ history_text form.entry) }
+    ensures fault { IfErr result IsOutOfMemory }
 {
     let text = write_history(alloc, &form);
     drop(form);
@@ -185,7 +198,8 @@ pub(crate) fn written(alloc: Global, form: HistoryForm<'_>) -> Result<Vec<u8>, H
 
 // Returns a copy of bytes.
 fn copy(alloc: Global, bytes: &[u8]) -> Result<Vec<u8>, HistoryFault>
-    ensures { IfOk result (λ text. text.items ≡ bytes.now) }
+    ensures ok { IfOk result (λ text. text.items ≡ bytes.now) }
+    ensures fault { IfErr result IsOutOfMemory }
 {
     match Vec::from_slice(alloc, bytes) {
         Ok(text) => Ok(text),

@@ -1,9 +1,10 @@
 //! The marks that the ends of the present generation have after a command, and which of its ends
 //! are still there.
-ghost use Rattle.std.specs.Prelude.{◌≡◌, ◌↔◌, IfOk, IsTrue};
+ghost use Rattle.std.specs.Prelude.{◌≡◌, ◌↔◌, ◌⊎◌, IfErr, IfOk, IsTrue};
 ghost use Rattle.rc_historytext.specs.Marking.{AreMarks, HasMarks, KeepsFirst, KeepsLast};
 ghost use Rattle.rc_historytext.specs.Marking.{comes_back, first_mark, is_first, is_last};
 ghost use Rattle.rc_historytext.specs.Marking.{last_mark};
+ghost use Rattle.rc_historytext.specs.CallFaults.{IsSessionFault};
 
 use crate::fault::HistoryFault;
 use crate::forms::GenerationForm;
@@ -28,7 +29,9 @@ pub(crate) fn marks_of(
     session: &[u8],
     keeping: Keeping,
 ) -> Result<Marks, HistoryFault>
-    ensures { IfOk result (HasMarks keeping generation.now session.now) }
+    ensures ok { IfOk result (HasMarks keeping generation.now session.now) }
+    ensures fault { IfErr result (λ fault. IsSessionFault generation.now.session fault
+        ⊎ IsSessionFault session.now fault) }
 {
     let old = session_form(alloc, generation.session)?;
     let new = match session_form(alloc, session) {

@@ -1,5 +1,6 @@
 //! From the form of a session to its text.
-ghost use Rattle.std.specs.Prelude.{◌≡◌, ◌++◌, ◌∷◌, false, map, None, Some, IfOk, OnOk};
+ghost use Rattle.std.specs.Prelude.{◌≡◌, ◌++◌, ◌∷◌, false, map, None, Some, IfErr};
+ghost use Rattle.std.specs.Prelude.{IfOk, OnOk};
 ghost use Rattle.std.specs.List.{flat_map};
 ghost use Rattle.rc_dbtext.specs.Words.{line_of_words};
 ghost use Rattle.rc_dbtext.specs.Form.{spells};
@@ -7,6 +8,7 @@ ghost use Rattle.rc_dbtext.specs.Lines.{words_after_spaces};
 ghost use Rattle.rc_livetext.specs.Text.{OfBound, OfBundle, OfServices, OfState, head_lines};
 ghost use Rattle.rc_livetext.specs.Text.{live_text, spell, state_lines, state_word};
 ghost use Rattle.rc_historytext.specs.States.{Cuts};
+ghost use Rattle.rc_historytext.specs.CallFaults.{IsSessionFault};
 
 use crate::fault::HistoryFault;
 use crate::states::session_form;
@@ -17,7 +19,8 @@ use std::alloc::{AllocError, Global};
 
 /// Returns the text of a session without the states after the current one.
 pub(crate) fn cut_session(alloc: Global, session: &[u8]) -> Result<Vec<u8>, HistoryFault>
-    ensures { IfOk result (λ cut. Cuts session.now cut.items) }
+    ensures ok { IfOk result (λ cut. Cuts session.now cut.items) }
+    ensures fault { IfErr result (IsSessionFault session.now) }
 {
     let mut form = session_form(alloc, session)?;
     form.after.clear();

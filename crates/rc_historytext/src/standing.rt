@@ -7,6 +7,7 @@ ghost use Rattle.std.specs.Prelude.{◌≡◌, ◌||◌, IfErr, IfOk};
 ghost use Rattle.rc_historytext.specs.Faults.{IsHistoryFault};
 ghost use Rattle.rc_historytext.specs.Present.{IsPresent, StandsAt, crosses, has_inside};
 ghost use Rattle.rc_historytext.specs.Present.{passes, passes_next};
+ghost use Rattle.rc_historytext.specs.CallFaults.{IsStandingFault};
 
 use crate::fault::HistoryFault;
 use crate::read::read_history;
@@ -130,7 +131,8 @@ pub fn present_of<'a>(alloc: Global, history: &'a [u8]) -> Result<Present<'a>, H
 
 /// Returns the standing of a history, given its text.
 pub fn standing_of<'a>(alloc: Global, history: &'a [u8]) -> Result<Standing<'a>, HistoryFault>
-    ensures { IfOk result (StandsAt history.now) }
+    ensures ok { IfOk result (StandsAt history.now) }
+    ensures fault { IfErr result (IsStandingFault history.now) }
 {
     let form = read_history(alloc, history)?;
     let generation = &form.generations[form.present as usize];

@@ -1,17 +1,20 @@
 //! The states of a generation, by names, as the text of its session gives them.
 //!
 //! Time and memory grow with the text.
-ghost use Rattle.std.specs.Prelude.{◌≡◌, ◌↔◌, IfOk, IsTrue};
+ghost use Rattle.std.specs.Prelude.{◌≡◌, ◌↔◌, IfErr, IfOk, IsTrue};
 ghost use Rattle.rc_historytext.specs.States.{IsSession, StandsBetween, newest_state, oldest_state};
+ghost use Rattle.rc_historytext.specs.CallFaults.{IsSessionFault};
 
 use crate::fault::HistoryFault;
 use rc_dbtext::lexer::{BundleForm, NameWord};
+use rc_livetext::form_laws::{text_is_not_refused, text_is_unique};
 use rc_livetext::{FormFault, LiveForm, StateForm, read_form};
 use std::alloc::Global;
 
 /// Returns the numbers of states before and after the current one of a session.
 pub fn states_around(alloc: Global, session: &[u8]) -> Result<(usize, usize), HistoryFault>
-    ensures { IfOk result (λ around. StandsBetween session.now around.0 around.1) }
+    ensures ok { IfOk result (λ around. StandsBetween session.now around.0 around.1) }
+    ensures fault { IfErr result (IsSessionFault session.now) }
 {
     let form = session_form(alloc, session)?;
     let around = (form.before.len(), form.after.len());
@@ -24,8 +27,11 @@ pub(crate) fn session_form<'a>(
     alloc: Global,
     session: &'a [u8],
 ) -> Result<LiveForm<'a>, HistoryFault>
-    ensures { IfOk result (IsSession session.now) }
+    ensures ok { IfOk result (IsSession session.now) }
+    ensures fault { IfErr result (IsSessionFault session.now) }
 {
+    text_is_unique();
+    text_is_not_refused();
     match read_form(alloc, session) {
         Ok((form, rest)) => {
             if rest.is_empty() {
@@ -34,8 +40,9 @@ pub(crate) fn session_form<'a>(
             drop(form);
             Err(HistoryFault::Bad(0))
         }
+        Err(FormFault::Bad(_)) => Err(HistoryFault::Bad(0)),
+        Err(FormFault::Version) => Err(HistoryFault::Bad(0)),
         Err(FormFault::Memory) => Err(HistoryFault::Memory),
-        Err(_) => Err(HistoryFault::Bad(0)),
     }
 }
 

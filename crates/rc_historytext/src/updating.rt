@@ -2,14 +2,19 @@
 //! to make a state a stop.
 //!
 //! Time and memory grow with all bytes.
-ghost use Rattle.std.specs.Prelude.{◌≡◌, ◌==◌, ◌&&◌, ◌++◌, ◌∷◌, [], not, if◌then◌else◌};
-ghost use Rattle.std.specs.Prelude.{All, IfOk, OnOk};
+ghost use Rattle.std.specs.Prelude.{◌≡◌, ◌==◌, ◌&&◌, ◌++◌, ◌∷◌, ◌⊎◌, [], not, if◌then◌else◌};
+ghost use Rattle.std.specs.Prelude.{All, IfErr, IfOk, OnOk};
 ghost use Rattle.rc_model.specs.Names.{IsName};
 ghost use Rattle.rc_update.specs.Conversions.{conversion_of, conversions_of};
 ghost use Rattle.rc_historytext.specs.Text.{IsGenerationText, IsHistoryText, IsRename};
 ghost use Rattle.rc_historytext.specs.Updating.{BeginsBehind, IsBegun, IsCrossed, IsEntered};
 ghost use Rattle.rc_historytext.specs.Updating.{IsLeft, IsSettled, LeavesWith, crossed, entered};
 ghost use Rattle.rc_historytext.specs.Updating.{rename_of, renames_of};
+ghost use Rattle.rc_historytext.specs.Keeping.{StandsThere};
+ghost use Rattle.rc_historytext.specs.Faults.{IsHistoryFault};
+ghost use Rattle.rc_historytext.specs.CallFaults.{IsEnterFault, IsOutOfMemory, IsRenamesFault};
+ghost use Rattle.rc_historytext.specs.CallFaults.{IsStandingFault};
+ghost use Rattle.rc_historytext.specs.declared.fault.HistoryFault.TheVariants.{Bad};
 
 use crate::fault::HistoryFault;
 use crate::forms::{GenerationForm, HistoryForm, RenameForm};
@@ -24,7 +29,9 @@ use std::alloc::Global;
 
 /// Returns the text of a new history of one generation, whose states are stops.
 pub fn new_history(alloc: Global, database: &[u8], session: &[u8]) -> Result<Vec<u8>, HistoryFault>
-    ensures { IfOk result (λ text. IsBegun database.now session.now text.items) }
+    ensures ok { IfOk result (λ text. IsBegun database.now session.now text.items) }
+    ensures present { IfOk result (λ text. StandsThere text.items session.now) }
+    ensures fault { IfErr result IsOutOfMemory }
 {
     if !is_short(database) || !is_short(session) {
         return Err(HistoryFault::Memory);
@@ -54,8 +61,10 @@ pub fn enter_generation<'n>(
     session: &'n [u8],
     list: &[Conversion<'n>],
 ) -> Result<Vec<u8>, HistoryFault>
-    ensures { IfOk result (λ text. IsEntered history.now database.now session.now
+    ensures ok { IfOk result (λ text. IsEntered history.now database.now session.now
         (conversions_of list.now) text.items) }
+    ensures present { IfOk result (λ text. StandsThere text.items session.now) }
+    ensures fault { IfErr result (IsEnterFault history.now (conversions_of list.now)) }
 {
     let left = leave(alloc, history)?;
     let text = enter_left(alloc, &left, database, session, list);
@@ -66,7 +75,8 @@ pub fn enter_generation<'n>(
 /// Returns the text of a history that has crossed the border after its present generation (`is_on`)
 /// or before it (not `is_on`). If there is no such border, the text is as it was.
 pub fn cross_border(alloc: Global, history: &[u8], is_on: bool) -> Result<Vec<u8>, HistoryFault>
-    ensures { IfOk result (λ text. IsCrossed is_on history.now text.items) }
+    ensures ok { IfOk result (λ text. IsCrossed is_on history.now text.items) }
+    ensures fault { IfErr result (IsHistoryFault history.now) }
 {
     let mut form = read_history(alloc, history)?;
     cross(&mut form, is_on);
@@ -75,7 +85,8 @@ pub fn cross_border(alloc: Global, history: &[u8], is_on: bool) -> Result<Vec<u8
 
 /// Returns the text of a history with its current state made a stop.
 pub fn settle_state(alloc: Global, history: &[u8]) -> Result<Vec<u8>, HistoryFault>
-    ensures { IfOk result (λ text. IsSettled history.now text.items) }
+    ensures ok { IfOk result (λ text. IsSettled history.now text.items) }
+    ensures fault { IfErr result (IsStandingFault history.now) }
 {
     let mut form = read_history(alloc, history)?;
     let generation = &form.generations[form.present as usize];
@@ -98,7 +109,8 @@ fn push<'a>(
     generations: &mut Vec<GenerationForm<'a>>,
     next: GenerationForm<'a>,
 ) -> Result<(), HistoryFault>
-    ensures { OnOk result (generations.new.items ≡ generations.old.items ++ next.entry ∷ []) }
+    ensures ok { OnOk result (generations.new.items ≡ generations.old.items ++ next.entry ∷ []) }
+    ensures fault { IfErr result IsOutOfMemory }
 {
     match generations.push(next) {
         Ok(()) => Ok(()),
@@ -130,7 +142,8 @@ fn cross(form: &mut HistoryForm<'_>, is_on: bool)
 
 // Returns the text of a history with its present session cut off after the current state.
 fn leave(alloc: Global, history: &[u8]) -> Result<Vec<u8>, HistoryFault>
-    ensures { IfOk result (λ text. IsLeft history.now text.items) }
+    ensures ok { IfOk result (λ text. IsLeft history.now text.items) }
+    ensures fault { IfErr result (IsStandingFault history.now) }
 {
     let present = present_of(alloc, history)?;
     let cut = cut_session(alloc, present.session)?;
@@ -141,7 +154,8 @@ fn leave(alloc: Global, history: &[u8]) -> Result<Vec<u8>, HistoryFault>
 
 // Returns the text of a history with the given cut session in place of the present one.
 fn leave_with(alloc: Global, history: &[u8], cut: &[u8]) -> Result<Vec<u8>, HistoryFault>
-    ensures { IfOk result (λ text. LeavesWith history.now cut.now text.items) }
+    ensures ok { IfOk result (λ text. LeavesWith history.now cut.now text.items) }
+    ensures fault { IfErr result (IsStandingFault history.now) }
 {
     if !is_short(cut) {
         return Err(HistoryFault::Memory);
@@ -181,8 +195,10 @@ fn enter_left<'n>(
     session: &'n [u8],
     list: &[Conversion<'n>],
 ) -> Result<Vec<u8>, HistoryFault>
-    ensures { IfOk result (λ text. BeginsBehind left.now
+    ensures ok { IfOk result (λ text. BeginsBehind left.now
         (entered database.now session.now (conversions_of list.now)) text.items) }
+    ensures fault { IfErr result (λ fault. IsHistoryFault left.now fault
+        ⊎ IsRenamesFault (conversions_of list.now) fault) }
 {
     let renames = renames_of(alloc, list)?;
     if !is_short(database) || !is_short(session) || renames.len() > 4096 {
@@ -206,7 +222,8 @@ fn begun_behind(
     next: GenerationForm<'_>,
 ) -> Result<Vec<u8>, HistoryFault>
     requires { IsGenerationText next }
-    ensures { IfOk result (λ text. BeginsBehind left.now next.entry text.items) }
+    ensures ok { IfOk result (λ text. BeginsBehind left.now next.entry text.items) }
+    ensures fault { IfErr result (IsHistoryFault left.now) }
 {
     match read_history(alloc, left) {
         Ok(form) => match form.begin(next) {
@@ -227,6 +244,7 @@ fn renames_of<'n>(
 ) -> Result<Vec<RenameForm<'n>>, HistoryFault>
     ensures renames { IfOk result (λ kept. kept.items ≡ renames_of (conversions_of list.now)) }
     ensures each { IfOk result (λ renames. All IsRename renames.items) }
+    ensures fault { IfErr result (IsRenamesFault (conversions_of list.now)) }
 {
     let mut renames = Vec::new(alloc);
     for one in list {
@@ -243,6 +261,7 @@ fn add_rename<'n>(
     ensures renames { OnOk result (renames.new.items
         ≡ renames.old.items ++ renames_of (conversion_of one.entry ∷ [])) }
     ensures each { OnOk result (All IsRename renames.old.items → All IsRename renames.new.items) }
+    ensures fault { IfErr result (IsRenamesFault (conversion_of one.entry ∷ [])) }
 {
     if one.restart {
         return Ok(());
@@ -258,6 +277,8 @@ fn add_rename<'n>(
 fn rename_of<'n>(one: Conversion<'n>) -> Result<RenameForm<'n>, HistoryFault>
     ensures renames { IfOk result (λ rename. rename ≡ rename_of (conversion_of one.entry)) }
     ensures is { IfOk result IsRename }
+    ensures fault { IfErr result (λ fault. (fault ≡ Bad 0)
+        × (IsRename (rename_of (conversion_of one.entry)) → ⊥)) }
 {
     Ok(RenameForm {
         old: name_of(one.old)?,
@@ -267,7 +288,8 @@ fn rename_of<'n>(one: Conversion<'n>) -> Result<RenameForm<'n>, HistoryFault>
 
 // Parses a name from its bytes.
 fn name_of(bytes: &[u8]) -> Result<NameWord<'_>, HistoryFault>
-    ensures { IfOk result (λ name. (name ≡ bytes.now) × IsName bytes.now) }
+    ensures ok { IfOk result (λ name. (name ≡ bytes.now) × IsName bytes.now) }
+    ensures fault { IfErr result (λ fault. (fault ≡ Bad 0) × (IsName bytes.now → ⊥)) }
 {
     match str::from_utf8(bytes) {
         Ok(text) => match NameWord::read(text) {

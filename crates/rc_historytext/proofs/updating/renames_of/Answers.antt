@@ -1,19 +1,13 @@
 use Rattle.std.proofs.Common.{◌≡◌, ◌∙◌, ◌+◌, ◌<◌, ◌∷◌, [], ◌++◌, ℕ, List, length, take, get_or, ap}
-use Rattle.std.proofs.Common.{map, not, sym}
+use Rattle.std.proofs.Common.{sym}
 use Rattle.std.proofs.lemmas.List.{take_more, map-append}
-use Rattle.std.proofs.lemmas.List.Elements.{filter-append}
-use Rattle.std.specs.List.{filter}
-use Rattle.rc_update.specs.Conversions.{Conversion, conversion_of, conversions_of}
+use Rattle.std.proofs.lemmas.Result.{err_from_is_err_and}
+use Rattle.rc_update.specs.Conversions.{conversion_of, conversions_of}
 use Rattle.rc_update.specs.declared.conversion.Conversion.{Conversion as Given}
 use Rattle.rc_historytext.specs.Text.{RenameText}
-use Rattle.rc_historytext.specs.Updating.{rename_of, renames_of}
+use Rattle.rc_historytext.specs.Updating.{renames_of}
+use Rattle.rc_historytext.proofs.Failing.{one_refused, renames_join}
 use Rattle.rc_historytext.proofs.updating.renames_of.Goals as goal
-
-both : (xs ys : List Conversion) → renames_of (xs ++ ys) ≡ renames_of xs ++ renames_of ys
-both xs ys =
-    ap (map rename_of) (filter-append (λ (c : Conversion). not c.restart) xs ys)
-    ∙ map-append rename_of (filter (λ (c : Conversion). not c.restart) xs)
-    (filter (λ (c : Conversion). not c.restart) ys)
 
 -- one conversion more
 more : (list : List Given) (i : ℕ) (d : Given) (old new : List RenameText) → i < length list
@@ -26,7 +20,7 @@ more list i d old new low so_far added =
     ∙ sym
     (ap (λ (l : List Given). renames_of (conversions_of l)) (take_more list i d low)
     ∙ ap renames_of (map-append conversion_of (take i list) (get_or list i d ∷ []))
-    ∙ both (conversions_of (take i list)) (conversion_of (get_or list i d) ∷ []))
+    ∙ renames_join (conversions_of (take i list)) (conversion_of (get_or list i d) ∷ []))
 
 pub loop-one-preserved : goal.loop-one-preserved
 loop-one-preserved c = record {
@@ -36,3 +30,10 @@ loop-one-preserved c = record {
       c.in_ok-add_rename.ensures.renames;
   each = c.in_ok-add_rename.ensures.each c.loop-one.invariant.each;
 }
+
+pub returns-in_err-add_rename-clause-fault : goal.returns-in_err-add_rename-clause-fault
+returns-in_err-add_rename-clause-fault c =
+    let p = err_from_is_err_and c.from_residual.result c.from_residual.ensures.1 in
+    rw (p.1, p.2)
+    (one_refused c.args.list.now c.loop-one.one-index _ c.in_err-add_rename.field-0.0
+    c.loop-one-test.true c.in_err-add_rename.ensures.fault)

@@ -1,15 +1,18 @@
-use Rattle.std.proofs.Common.{◌≡◌, ◌∙◌, ◌<◌, Some, ap, length, refl, slice_get, subst, sym}
+use Rattle.std.proofs.Common.{◌≡◌, ◌∙◌, ◌<◌, Some, ap, inl, length, refl, slice_get, subst, sym}
 use Rattle.std.proofs.lemmas.Option.{slice_get_read}
+use Rattle.std.proofs.lemmas.Result.{err_from_is_err_and}
 use Rattle.rc_historytext.specs.Text.{GenerationText, HistoryText, IsHistoryText, IsShort}
 use Rattle.rc_historytext.specs.Text.{history_text}
 use Rattle.rc_historytext.specs.States.{IsSession}
 use Rattle.rc_historytext.specs.Present.{IsAt}
 use Rattle.rc_historytext.specs.Updating.{settled}
 use Rattle.rc_historytext.proofs.Marked.{session_short, settled_marked}
+use Rattle.rc_historytext.specs.CallFaults.{IsSessionFault}
+use Rattle.rc_historytext.proofs.Failing.{stand_memory, stand_present}
 use Rattle.rc_historytext.proofs.updating.settle_state.Goals as goal
 
-pub returns : goal.returns
-returns c =
+pub returns-clause-ok : goal.returns-clause-ok
+returns-clause-ok c =
     let inside : GenerationText = record {
       first_passed = c.generation.inside.first_passed;
       last_passed = c.generation.inside.last_passed;
@@ -20,7 +23,7 @@ returns c =
     let form = c.in_ok-form.form in
     let read = c.in_ok-form.ensures.ok in
     let g = c.index-generation.result.now in
-    let around = c.in-Ok.ensures in
+    let around = c.in-Ok.ensures.ok in
     let low : c.form.inside.present < length c.form.inside.generations.items =
     subst (λ (t : HistoryText). t.present < length t.generations) (sym c.form.view_is)
     read.0.present in
@@ -45,5 +48,35 @@ returns c =
           (c.replace.ensures.text read.0
           (subst (λ (x : GenerationText). IsShort x.session) (sym c.generation.view_is)
           (session_short c.args.history.now form g at))),
-      c.in_ok-text.ensures ∙ ap history_text same,
+      c.in_ok-text.ensures.ok ∙ ap history_text same,
     )
+
+pub returns-in_err-form-clause-fault : goal.returns-in_err-form-clause-fault
+returns-in_err-form-clause-fault c =
+    let p = err_from_is_err_and c.from_residual.result c.from_residual.ensures.1 in
+    rw (p.1, p.2)
+    (inl c.in_err-form.ensures.fault)
+
+pub returns-in-Err-clause-fault : goal.returns-in-Err-clause-fault
+returns-in-Err-clause-fault c =
+    let form = c.in_ok-form.form in
+    let read = c.in_ok-form.ensures.ok in
+    let g = c.index-generation.result.now in
+    let low : c.form.inside.present < length c.form.inside.generations.items =
+    subst (λ (t : HistoryText). t.present < length t.generations) (sym c.form.view_is)
+    read.0.present in
+    let here =
+    subst (λ (t : HistoryText). slice_get t.generations t.present ≡ Some g) c.form.view_is
+    (slice_get_read c.form.inside.generations.items _ c.form.inside.present g refl low
+    c.index-generation.ensures) in
+    stand_present c.args.history.now form g c.in-Err.fault
+    (record { is = read.0; spelled = read.1; there = here })
+    (subst (λ (x : GenerationText). IsSessionFault x.session c.in-Err.fault) c.generation.view_is
+    c.in-Err.ensures.fault)
+
+pub returns-in_err-text-clause-fault : goal.returns-in_err-text-clause-fault
+returns-in_err-text-clause-fault c =
+    let p =
+    err_from_is_err_and c.from_residual-in_err-text.result c.from_residual-in_err-text.ensures.1 in
+    rw (p.1, p.2)
+    (stand_memory c.args.history.now c.in_err-text.field-0.0 c.in_err-text.ensures.fault)
