@@ -38,3 +38,13 @@ mod Presents
 mod Failing
 -- The marks of the present generation, once it is left or its state is a stop.
 mod Marked
+-- Generations of a history: lists of them, what the text at a place tells, and a border.
+mod TravelledTexts
+-- The mark of a place, and the marks beside another line of the same states.
+mod TravelledMarks
+-- A line and the next one, as their texts have them.
+mod TravelledLines
+-- One step of an undo or a redo on the text of a history is one in the history that it gives.
+mod TravelledSteps
+-- Where an undo and a redo stop, and several steps in a row.
+mod TravelledStops

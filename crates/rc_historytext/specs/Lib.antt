@@ -24,6 +24,10 @@ pub mod Updating
 pub mod CallFaults
 -- Which history a text tells.
 pub mod Telling
+-- The steps of an undo or a redo that leads across borders.
+pub mod Travelling
+-- Which history the bytes of a text give, with a mark for each of its places.
+pub mod Places
 -- Which line is due where, for reading alone: that it is what the texts say is a lemma.
 pub mod Due
 -- What stands in front of bytes, a line or none, for reading alone.

@@ -19,6 +19,7 @@ mod read;
 mod session_text;
 mod standing;
 mod states;
+pub mod travel_laws;
 mod updating;
 mod write;
 
