@@ -7,6 +7,8 @@ EDITS = ("add", "delete")
 ONE_SHOTS = RUNS + EDITS + LOOKS
 # These read no input: they want a database and a file.
 ON_FILES = ("restart", "seal", "status")
+# Words of their own for a change one way.
+WAY_WORDS = {"u": "start", "d": "stop"}
 
 
 class Case:
@@ -32,6 +34,7 @@ class Case:
         self.limit = 0
         self.workers = None
         self.trees = []
+        self.has_own_word = False
 
     @property
     def input(self):
@@ -60,7 +63,7 @@ class Case:
 
     def arguments(self):
         """The words of the command line; files stand in the folder in which it is run."""
-        words = [self.word.encode()]
+        words = [self.spelled.encode()]
         if self.word == "compile":
             return words + [b"tree%d" % k for k in range(len(self.trees))]
         if not self.in_front:
@@ -87,9 +90,20 @@ class Case:
         words += [b"-f"] if self.force else []
         return words + (self.asked() if self.word == "change" else self.words)
 
+    @property
+    def spelled(self):
+        """The word of the command line: some commands have a second one. `start` and `stop` want a name, or -a."""
+        if self.has_own_word and self.word == "live":
+            return "list"
+        if self.has_own_word and self.word == "change" and (self.ask.words or self.ask.everything):
+            if self.ask.way == "u" or not self.ask.prune:
+                return WAY_WORDS.get(self.ask.way, self.word)
+        return self.word
+
     def asked(self):
-        """The options and names of a change."""
+        """The options and names of a change; `start` and `stop` say the way."""
         ask = self.ask
-        words = [b"-" + letter.encode() for letter in ask.letters()]
+        letters = ask.letters()[self.spelled in WAY_WORDS.values() :]
+        words = [b"-" + letter.encode() for letter in letters]
         words += [b"-t", b"%d" % ask.limit] if ask.limit else []
         return words + ask.words

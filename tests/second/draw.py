@@ -439,6 +439,7 @@ class Drawer:
         if case.word == "change":
             case.ask = self.ask(base)
             case.ask.limit = self.pick([0, 0, 7])
+            case.has_own_word = self.one_in(3)
         elif case.word in RUNS and not case.dry:
             case.limit = self.pick([0, 0, 7])
         elif case.word in EDITS:
@@ -447,6 +448,8 @@ class Drawer:
         elif case.word in ("restart", "status"):
             least = 1 if case.word == "restart" else 0
             case.words = self.fits(base, 3) or [self.fitting(self.word(base))][:least]
+        elif case.word == "live":
+            case.has_own_word = self.one_in(2)
         return case
 
     def fitting(self, word):

@@ -141,11 +141,19 @@ def reports_of(way_of, text):
     return [b"undorc:    0.000 s  %s %s: failed 1\n" % (way_of(name), name) for names in failed for name in names]
 
 
+def is_down(history, name):
+    """Whether a service is down, or each of the services of a bundle."""
+    now = history.now().line.now()
+    members = {name} if name in history.now().base.services else set(now.bundles.get(name, ()))
+    return bool(members) and not members & set(now.live)
+
+
 def restart(case, answer):
     """What is named and up goes down, with all that needs it, and an undo brings it back. What was cut short is taken back
-    before."""
+    before. What was down stays down, which is said."""
     history, _ = begun(case, answer)
     history.is_plain = False
+    were_down = [name for name in case.words if case.kept is None or is_down(history, name)]
     do_one = doing(case, answer)
     is_taken = history.is_cut_inside()
     if is_taken:
@@ -162,6 +170,9 @@ def restart(case, answer):
     answer.kept = history.written()
     if has_failed(answer.out):
         answer.status = 2
+    for name in were_down:
+        if answer.status != 1 and not answer.fault and is_down(history, name):
+            answer.fault = b"undorc: %s is down, and a restart leaves it down\n" % shown(name)
 
 
 def seal(case, answer):

@@ -5,12 +5,12 @@ use Rattle.std.proofs.lemmas.Slice.Eq.{bytes_eq-Decides}
 use Rattle.std.specs.Str.{bytes_eq}
 use Rattle.clap.specs.Words.{Row, Text}
 use Rattle.rc_args.specs.Words.{rows_for, rows_named}
+use Rattle.rc_args.specs.CommandWords.{Meaning}
 use Rattle.rc_args.specs.OnceAsked.{OnceAsk}
-use Rattle.rc_args.specs.Invocation.{InvokesEntered, InvokesNamed, InvokesNothing, Invokes}
+use Rattle.rc_args.specs.Invocation.{InvokesEntered, InvokesMeant, InvokesNothing, Invokes}
 use Rattle.rc_args.specs.Invocation.{OfCompile, OfDb, OfOnce, OfPlan, OfReplay, OfRestart, OfSeal}
-use Rattle.rc_args.specs.Invocation.{OfSession, OfStatus, OfStop, OfUpdate, OfVersion}
+use Rattle.rc_args.specs.Invocation.{OfSession, OfStatus, OfCancel, OfUpdate, OfVersion}
 use Rattle.rc_args.specs.Invocation.{InvocationAsk}
-use Rattle.rc_args.specs.Invocation.{command_of}
 
 -- the command that was entered has its matches, and is the one that has them
 named_self : (name : Text) (rows : List Row) → rows_named name (Some (name, rows)) ≡ Some rows
@@ -43,9 +43,9 @@ pub entered_right : (words : List Text) (entered : Option (Text × List Row)) (a
     → InvokesEntered entered ask → Invokes words ask
 entered_right words entered ask same asks = (
   asks.0,
-  same (command_of ask)
-      ∙ (ap (rows_named (command_of ask)) asks.1 ∙ named_self (command_of ask) asks.0),
-  asks.2,
+  asks.1,
+  same asks.0 ∙ (ap (rows_named asks.0) asks.2 ∙ named_self asks.0 asks.1),
+  asks.3,
 )
 
 pub entered_back : (words : List Text) (entered : Option (Text × List Row)) (ask : InvocationAsk)
@@ -53,15 +53,16 @@ pub entered_back : (words : List Text) (entered : Option (Text × List Row)) (as
     → Invokes words ask → InvokesEntered entered ask
 entered_back words entered ask same asks = (
   asks.0,
-  named_back (command_of ask) entered asks.0 (sym (same (command_of ask)) ∙ asks.1),
-  asks.2,
+  asks.1,
+  named_back asks.0 entered asks.1 (sym (same asks.0) ∙ asks.2),
+  asks.3,
 )
 
 -- a wrong line asks nothing
 pub wrong_asks : (words : List Text) → ((name : Text) → rows_for name words ≡ None)
     → InvokesNothing words
 wrong_asks words wrong ask asks =
-    let both : None ≡ Some asks.0 = sym (wrong (command_of ask)) ∙ asks.1 in cc
+    let both : None ≡ Some asks.1 = sym (wrong asks.0) ∙ asks.2 in cc
 
 -- two names are apart
 pub apart : (name other : Text) → bytes_eq name other ≡ false → name ≡ other → ⊥
@@ -71,16 +72,17 @@ apart name other no_test is =
 
 -- matches that ask for no session of one line ask nothing, where their command has none of the
 -- other names
-pub others_none : (name : Text) (rows : List Row) → (name ≡ codes "compile" → ⊥)
-    → (name ≡ codes "db" → ⊥) → (name ≡ codes "plan" → ⊥) → (name ≡ codes "replay" → ⊥)
-    → (name ≡ codes "session" → ⊥) → (name ≡ codes "update" → ⊥) → (name ≡ codes "restart" → ⊥)
-    → (name ≡ codes "seal" → ⊥) → (name ≡ codes "status" → ⊥)
-    → (name ≡ codes "stop" → ⊥) → (name ≡ codes "version" → ⊥)
-    → ((ask : OnceAsk) (file : Option Text) → InvokesNamed name rows (OfOnce ask file) → ⊥)
-    → (ask : InvocationAsk) → InvokesNamed name rows ask → ⊥
-others_none name rows compile db plan replay session update restart seal status stop version none
-    ask =
-    elim ask as (λ (a : InvocationAsk). InvokesNamed name rows a → ⊥) [
+pub others_none : (meaning : Meaning) (rows : List Row) → (meaning.command ≡ codes "compile" → ⊥)
+    → (meaning.command ≡ codes "db" → ⊥) → (meaning.command ≡ codes "plan" → ⊥)
+    → (meaning.command ≡ codes "replay" → ⊥) → (meaning.command ≡ codes "session" → ⊥)
+    → (meaning.command ≡ codes "update" → ⊥) → (meaning.command ≡ codes "restart" → ⊥)
+    → (meaning.command ≡ codes "seal" → ⊥) → (meaning.command ≡ codes "status" → ⊥)
+    → (meaning.command ≡ codes "cancel" → ⊥) → (meaning.command ≡ codes "version" → ⊥)
+    → ((ask : OnceAsk) (file : Option Text) → InvokesMeant meaning rows (OfOnce ask file) → ⊥)
+    → (ask : InvocationAsk) → InvokesMeant meaning rows ask → ⊥
+others_none meaning rows compile db plan replay session update restart seal status cancel version
+    none ask =
+    elim ask as (λ (a : InvocationAsk). InvokesMeant meaning rows a → ⊥) [
       | OfCompile ask ↦ λ asks. compile asks.0
       | OfDb ask file ↦ λ asks. db asks.0
       | OfPlan ask file ↦ λ asks. plan asks.0
@@ -91,6 +93,6 @@ others_none name rows compile db plan replay session update restart seal status 
       | OfRestart ask file ↦ λ asks. restart asks.0
       | OfSeal ask file ↦ λ asks. seal asks.0
       | OfStatus ask file ↦ λ asks. status asks.0
-      | OfStop file ↦ λ asks. stop asks.0
+      | OfCancel file ↦ λ asks. cancel asks.0
       | OfVersion ↦ λ asks. version asks.0
     ]

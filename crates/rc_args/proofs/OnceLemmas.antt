@@ -12,7 +12,7 @@ use Rattle.rc_script.specs.Says.{SaysBundles, SaysDry, SaysJournal, SaysLive, Sa
 use Rattle.rc_script.specs.Says.{SaysWrong}
 use Rattle.rc_args.specs.Words.{is_on, words_in}
 use Rattle.rc_select.specs.Ask.{asked_with, chosen_in, mode_of}
-use Rattle.rc_args.specs.Asked.{ask_in}
+use Rattle.rc_args.specs.Asked.{ask_with, is_on_with}
 use Rattle.rc_args.specs.Limits.{IsRunLimitIn}
 use Rattle.rc_args.specs.OnceAsked.{Adds, AsksWhat, OnceSaying, Said, WantsDryRedo, WantsDryUndo}
 use Rattle.rc_args.specs.OnceAsked.{once_command}
@@ -26,10 +26,10 @@ unlimited_by on words None ask is = cc
 unlimited_by on words (Some mode) ask is =
     sym (ap (λ (o : Option Ask). (unwrap_or o ask).limit) is)
 
-pub unlimited : (rows : List Row) (ask : Ask) → ask_in rows ≡ Some ask
-    → ask_in rows ≡ Some (record ask { limit = 0 })
-unlimited rows ask is =
-    let on : List ℕ → Bool = λ name. is_on name rows in
+pub unlimited : (flag : Text) (rows : List Row) (ask : Ask) → ask_with flag rows ≡ Some ask
+    → ask_with flag rows ≡ Some (record ask { limit = 0 })
+unlimited flag rows ask is =
+    let on : List ℕ → Bool = is_on_with flag rows in
     let zero = unlimited_by on (words_in rows) (mode_of (chosen_in on)) ask is in
     is ∙ ap (λ (l : ℕ). Some (record ask { limit = l })) zero
 
@@ -50,59 +50,61 @@ limit_back : (m : ArgMatches) (given : Option Text) (limit : ℕ)
 limit_back m given limit is says = found_back (says_limit limit) m (codes "limit") given is says
 
 -- matches whose limit is none ask no change, no undo and no redo
-pub limit_none : (name : Text) (m : ArgMatches) (given : Option Text)
+pub limit_none : (name flag : Text) (m : ArgMatches) (given : Option Text)
     → bytes_eq name (codes "add") ≡ false → bytes_eq name (codes "delete") ≡ false
     → bytes_eq name (codes "live") ≡ false → bytes_eq name (codes "bundles") ≡ false
     → bytes_eq name (codes "journal") ≡ false
     → given ≡ first_value (found_of m) (codes "limit")
     → ((limit : ℕ) → IsRunLimitIn given limit → ⊥)
-    → (what : OnceSaying) → AsksWhat name (rows_of (found_of m)) what → ⊥
-limit_none name m given add delete live bundles journal is none (Said SaysNothing) asks =
+    → (what : OnceSaying) → AsksWhat name flag (rows_of (found_of m)) what → ⊥
+limit_none name flag m given add delete live bundles journal is none (Said SaysNothing) asks =
     asks.1
-limit_none name m given add delete live bundles journal is none (Said SaysWrong) asks =
+limit_none name flag m given add delete live bundles journal is none (Said SaysWrong) asks =
     asks.1
-limit_none name m given add delete live bundles journal is none
+limit_none name flag m given add delete live bundles journal is none
     (Said (SaysStep (Change ask events))) asks =
     none ask.limit (limit_back m given ask.limit is asks.1.2.1)
-limit_none name m given add delete live bundles journal is none
+limit_none name flag m given add delete live bundles journal is none
     (Said (SaysStep (Undo limit events))) asks =
     none limit (limit_back m given limit is asks.1.2)
-limit_none name m given add delete live bundles journal is none
+limit_none name flag m given add delete live bundles journal is none
     (Said (SaysStep (Redo limit events))) asks =
     none limit (limit_back m given limit is asks.1.2)
-limit_none name m given add delete live bundles journal is none
+limit_none name flag m given add delete live bundles journal is none
     (Said (SaysStep (Add word contents force))) asks =
     apart name (codes "add") add asks.0
-limit_none name m given add delete live bundles journal is none
+limit_none name flag m given add delete live bundles journal is none
     (Said (SaysStep (Delete words force))) asks =
     apart name (codes "delete") delete asks.0
-limit_none name m given add delete live bundles journal is none (Said (SaysDry ask)) asks =
+limit_none name flag m given add delete live bundles journal is none (Said (SaysDry ask)) asks =
     none ask.limit (limit_back m given ask.limit is asks.1.1.1)
-limit_none name m given add delete live bundles journal is none (Said SaysLive) asks =
+limit_none name flag m given add delete live bundles journal is none (Said SaysLive) asks =
     apart name (codes "live") live asks.0
-limit_none name m given add delete live bundles journal is none (Said SaysBundles) asks =
+limit_none name flag m given add delete live bundles journal is none (Said SaysBundles) asks =
     apart name (codes "bundles") bundles asks.0
-limit_none name m given add delete live bundles journal is none (Said SaysJournal) asks =
+limit_none name flag m given add delete live bundles journal is none (Said SaysJournal) asks =
     apart name (codes "journal") journal asks.0
-limit_none name m given add delete live bundles journal is none WantsDryUndo asks =
+limit_none name flag m given add delete live bundles journal is none WantsDryUndo asks =
     none asks.1.1.0 (limit_back m given asks.1.1.0 is asks.1.1.1)
-limit_none name m given add delete live bundles journal is none WantsDryRedo asks =
+limit_none name flag m given add delete live bundles journal is none WantsDryRedo asks =
     none asks.1.1.0 (limit_back m given asks.1.1.0 is asks.1.1.1)
 
 -- what the words of `add` add is what its matches ask, and only that
-pub adds_asks : (rows : List Row) (words : List Text) (force : Bool) (what : OnceSaying)
+pub adds_asks : (given : Text) (rows : List Row) (words : List Text) (force : Bool)
+    (what : OnceSaying)
     → words ≡ words_in rows → force ≡ is_on (codes "force") rows → Adds words force what
-    → AsksWhat (codes "add") rows what
-adds_asks rows words force (Said (SaysStep (Add name contents forced))) is flag adds =
+    → AsksWhat (codes "add") given rows what
+adds_asks given rows words force (Said (SaysStep (Add name contents forced))) is flag adds =
     (refl, (sym is ∙ adds.0, adds.1, adds.2 ∙ flag))
-adds_asks rows words force other is flag adds = absurd adds
+adds_asks given rows words force other is flag adds = absurd adds
 
-pub asks_adds : (rows : List Row) (words : List Text) (force : Bool) (what : OnceSaying)
+pub asks_adds : (given : Text) (rows : List Row) (words : List Text) (force : Bool)
+    (what : OnceSaying)
     → words ≡ words_in rows → force ≡ is_on (codes "force") rows
-    → AsksWhat (codes "add") rows what → Adds words force what
-asks_adds rows words force (Said (SaysStep (Add name contents forced))) is flag asks =
+    → AsksWhat (codes "add") given rows what → Adds words force what
+asks_adds given rows words force (Said (SaysStep (Add name contents forced))) is flag asks =
     (is ∙ asks.1.0, asks.1.1, asks.1.2 ∙ sym flag)
-asks_adds rows words force other is flag asks =
+asks_adds given rows words force other is flag asks =
     absurd (apart (codes "add") (once_command other) refl asks.0)
 
 -- without a word nothing is added

@@ -19,8 +19,9 @@ use Rattle.rc_args.specs.Commands.{change_command, changing_program, compile_com
 use Rattle.rc_args.specs.Commands.{flag, new_option, option, repeated, plan_command, program}
 use Rattle.rc_args.specs.Commands.{edit_command, journal_command, restart_command}
 use Rattle.rc_args.specs.Commands.{status_command, query_word, replay_command, session_command}
-use Rattle.rc_args.specs.Commands.{show_command, source_list, step_command, stop_command}
-use Rattle.rc_args.specs.Commands.{update_command, with_arg, with_command, word_list}
+use Rattle.rc_args.specs.Commands.{show_command, source_list, start_command, step_command}
+use Rattle.rc_args.specs.Commands.{cancel_command, stop_command, update_command, with_arg}
+use Rattle.rc_args.specs.Commands.{with_command, word_list}
 use Rattle.rc_args.specs.Words.{has_fault, is_on, rows_for, rows_named, values_in, words_in}
 
 -- what is opaque to the program is not to `clap`
@@ -32,7 +33,8 @@ read c reads = reads.0
 program_is_plain : is_simple program ≡ true
 unfolding program altering_program changing_program asking_program bare with_arg with_command flag
     option repeated word_list source_list query_word plan_command compile_command db_command
-    replay_command session_command change_command step_command stop_command edit_command
+    replay_command session_command change_command start_command stop_command step_command
+    cancel_command edit_command
     restart_command status_command show_command journal_command bare_program
     update_command new_option
 program_is_plain = refl
@@ -40,7 +42,8 @@ program_is_plain = refl
 program_is_simple : is_simple_and_free program ≡ true
 unfolding program altering_program changing_program asking_program bare with_arg with_command flag
     option repeated word_list source_list query_word plan_command compile_command db_command
-    replay_command session_command change_command step_command stop_command edit_command
+    replay_command session_command change_command start_command stop_command step_command
+    cancel_command edit_command
     restart_command status_command show_command journal_command bare_program
     update_command new_option
 program_is_simple = refl

@@ -6,6 +6,7 @@ use Rattle.rc_model.specs.Plan.{Ask}
 use Rattle.rc_select.specs.Ask.{ask_of}
 use Rattle.rc_args.specs.Words.{rows_for}
 use Rattle.rc_args.specs.Asked.{ask_in}
+use Rattle.rc_args.specs.CommandWords.{Meaning, meaning_of}
 use Rattle.rc_args.specs.CompileAsked.{AsksCompileIn, CompileAsk, compile_ask_of}
 use Rattle.rc_args.specs.OnceAsked.{AsksOnceIn, LacksFile, OnceAsk, once_ask_of}
 use Rattle.rc_args.specs.OnceAsked.{once_command}
@@ -22,7 +23,7 @@ use Rattle.rc_args.specs.declared.session_request.SessionRequest.{SessionRequest
 use Rattle.rc_args.specs.declared.asked.WordsFault.{WordsFault}
 use Rattle.rc_args.specs.declared.asked.WordsFault.TheVariants.{Both, Files, NoFile, Session}
 
--- what is asked of a command, and the file of `-b` or, of `stop`, that of `-l`, if one is named
+-- what is asked of a command, and the file of `-b` or, of `cancel`, that of `-l`, if one is named
 pub data InvocationAsk : Type 0 where
   OfCompile : CompileAsk → InvocationAsk
   OfDb : DbAsk → Option Text → InvocationAsk
@@ -34,7 +35,7 @@ pub data InvocationAsk : Type 0 where
   OfRestart : NamedAsk → Option Text → InvocationAsk
   OfSeal : SessionAsk → Option Text → InvocationAsk
   OfStatus : NamedAsk → Option Text → InvocationAsk
-  OfStop : Option Text → InvocationAsk
+  OfCancel : Option Text → InvocationAsk
   OfVersion : InvocationAsk
 
 -- the command that is asked
@@ -49,41 +50,47 @@ command_of (OfUpdate ask file) = codes "update"
 command_of (OfRestart ask file) = codes "restart"
 command_of (OfSeal ask file) = codes "seal"
 command_of (OfStatus ask file) = codes "status"
-command_of (OfStop file) = codes "stop"
+command_of (OfCancel file) = codes "cancel"
 command_of OfVersion = codes "version"
 
 -- the file of `-b` in the matches of a command
 abbrev pub file_in : List Row → Option Text
 file_in rows = first_of (codes "base") rows
 
--- the matches of the command ask this
-abbrev pub InvokesIn : List Row → InvocationAsk → Type 0
-InvokesIn rows (OfCompile ask) = AsksCompileIn rows ask
-InvokesIn rows (OfDb ask file) = AsksIn rows ask × (file ≡ file_in rows)
-InvokesIn rows (OfPlan ask file) = (ask_in rows ≡ Some ask) × (file ≡ file_in rows)
-InvokesIn rows (OfReplay file) = file ≡ file_in rows
-InvokesIn rows (OfSession ask file) = AsksLinesIn rows ask × (file ≡ file_in rows)
-InvokesIn rows (OfOnce ask file) = AsksOnceIn rows ask × (file ≡ file_in rows)
-InvokesIn rows (OfUpdate ask file) = AsksUpdateIn rows ask × (file ≡ file_in rows)
-InvokesIn rows (OfRestart ask file) = AsksNamesIn rows ask × (file ≡ file_in rows)
-InvokesIn rows (OfSeal ask file) = AsksSessionIn rows ask × (file ≡ file_in rows)
-InvokesIn rows (OfStatus ask file) = AsksNamesIn rows ask × (file ≡ file_in rows)
-InvokesIn rows (OfStop file) = file ≡ first_of (codes "live") rows
-InvokesIn rows OfVersion = Unit {0}
+-- the matches of the command ask this, where this flag counts as given
+abbrev pub InvokesIn : (flag : Text) → List Row → InvocationAsk → Type 0
+InvokesIn flag rows (OfCompile ask) = AsksCompileIn rows ask
+InvokesIn flag rows (OfDb ask file) = AsksIn rows ask × (file ≡ file_in rows)
+InvokesIn flag rows (OfPlan ask file) = (ask_in rows ≡ Some ask) × (file ≡ file_in rows)
+InvokesIn flag rows (OfReplay file) = file ≡ file_in rows
+InvokesIn flag rows (OfSession ask file) = AsksLinesIn rows ask × (file ≡ file_in rows)
+InvokesIn flag rows (OfOnce ask file) = AsksOnceIn flag rows ask × (file ≡ file_in rows)
+InvokesIn flag rows (OfUpdate ask file) = AsksUpdateIn rows ask × (file ≡ file_in rows)
+InvokesIn flag rows (OfRestart ask file) = AsksNamesIn rows ask × (file ≡ file_in rows)
+InvokesIn flag rows (OfSeal ask file) = AsksSessionIn rows ask × (file ≡ file_in rows)
+InvokesIn flag rows (OfStatus ask file) = AsksNamesIn rows ask × (file ≡ file_in rows)
+InvokesIn flag rows (OfCancel file) = file ≡ first_of (codes "live") rows
+InvokesIn flag rows OfVersion = Unit {0}
 
--- the matches of the command of this name ask this
+-- the matches of this command ask this, with the flag that counts as given
+abbrev pub InvokesMeant : Meaning → List Row → InvocationAsk → Type 0
+InvokesMeant meaning rows ask =
+    (meaning.command ≡ command_of ask) × InvokesIn meaning.flag rows ask
+
+-- the matches of the command that this word stands for ask this
 abbrev pub InvokesNamed : Text → List Row → InvocationAsk → Type 0
-InvokesNamed name rows ask = (name ≡ command_of ask) × InvokesIn rows ask
+InvokesNamed name rows ask = InvokesMeant (meaning_of name) rows ask
 
 -- what was entered asks this
 abbrev pub InvokesEntered : Option (Text × List Row) → InvocationAsk → Type 0
 InvokesEntered entered ask =
-    (rows : List Row) × (entered ≡ Some (command_of ask, rows)) × InvokesIn rows ask
+    (name : Text) × (rows : List Row) × (entered ≡ Some (name, rows)) × InvokesNamed name rows ask
 
 -- the words ask this
 abbrev pub Invokes : List Text → InvocationAsk → Type 0
 Invokes words ask =
-    (rows : List Row) × (rows_for (command_of ask) words ≡ Some rows) × InvokesIn rows ask
+    (name : Text) × (rows : List Row) × (rows_for name words ≡ Some rows)
+    × InvokesNamed name rows ask
 
 -- the words ask nothing of any command: they are a wrong command line
 abbrev pub InvokesNothing : List Text → Type 0
@@ -118,7 +125,7 @@ invocation_ask_of (invocation.Db request file) = OfDb (db_ask_of request) (path_
 invocation_ask_of (invocation.Plan request file) = OfPlan (ask_of request) (path_text file)
 invocation_ask_of (invocation.Replay file) = OfReplay (path_text file)
 invocation_ask_of (invocation.Session command file) = on_session command (path_text file)
-invocation_ask_of (invocation.Stop file) = OfStop (path_text file)
+invocation_ask_of (invocation.Cancel file) = OfCancel (path_text file)
 invocation_ask_of invocation.Version = OfVersion
 
 -- the same, with these where nothing is named
@@ -143,7 +150,7 @@ invocation_by defaults (OfSeal ask file) =
 invocation_by defaults (OfStatus ask file) =
     OfStatus (record ask { session = session_by defaults ask.session })
     (first_named file defaults.base)
-invocation_by defaults (OfStop file) = OfStop (first_named file defaults.live)
+invocation_by defaults (OfCancel file) = OfCancel (first_named file defaults.live)
 invocation_by defaults OfVersion = OfVersion
 
 -- one of two files is not named
@@ -151,21 +158,21 @@ abbrev pub LacksOne : (base live : Option Text) → Type 0
 LacksOne base live = (base ≡ None) ⊎ (live ≡ None)
 
 -- a file that the command needs is not named: of a session of one line that of the session; of an
--- update, a restart, a seal and a status one of both; of `stop` that of the session
+-- update, a restart, a seal and a status one of both; of `cancel` that of the session
 abbrev pub LacksItsFile : InvocationAsk → Type 0
 LacksItsFile (OfOnce ask file) = LacksFile ask
 LacksItsFile (OfUpdate ask file) = LacksOne file ask.session.live
 LacksItsFile (OfRestart ask file) = LacksOne file ask.session.live
 LacksItsFile (OfSeal ask file) = LacksOne file ask.live
 LacksItsFile (OfStatus ask file) = LacksOne file ask.session.live
-LacksItsFile (OfStop file) = file ≡ None
+LacksItsFile (OfCancel file) = file ≡ None
 LacksItsFile other = ⊥
 
 -- why a command is refused that lacks its file: the files that it wants
 abbrev pub wanted_files : InvocationAsk → WordsFault
 wanted_files (OfOnce ask file) = NoFile
 wanted_files (OfUpdate ask file) = Files
-wanted_files (OfStop file) = Session
+wanted_files (OfCancel file) = Session
 wanted_files other = Both
 
 -- the words ask this by these defaults, and each file that its command needs is named

@@ -8,6 +8,8 @@ pub mod Words
 pub mod QueryWords
 -- The commands of the program, as its tables tell of them.
 pub mod Told
+-- The words that stand for a command with one of its flags.
+pub mod CommandWords
 -- What the words ask of a command.
 pub mod Asked
 -- What may be asked of a database, and the words that ask it.

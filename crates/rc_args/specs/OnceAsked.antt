@@ -1,5 +1,6 @@
 -- What the words ask of a session of one line.
-use Rattle.std.specs.Prelude.{◌≡◌, ◌∷◌, ℕ, Bool, true, false, List, [], None, Some, All, Contains}
+use Rattle.std.specs.Prelude.{◌≡◌, ◌≢◌, ◌∷◌, ℕ, Bool, true, false, List, [], None, Some, All}
+use Rattle.std.specs.Prelude.{Contains}
 use Rattle.std.specs.Prelude.{codes}
 use Rattle.clap.specs.Words.{Row, Text, first_of}
 use Rattle.rc_model.specs.Names.{IsName}
@@ -8,7 +9,7 @@ use Rattle.rc_model.specs.Session.{Add, Change, Delete, Redo, Undo}
 use Rattle.rc_script.specs.Says.{Saying, SaysBundles, SaysDry, SaysJournal, SaysLive, SaysNothing}
 use Rattle.rc_script.specs.Says.{SaysStep, SaysWrong, saying_of}
 use Rattle.rc_args.specs.Words.{is_on, words_in}
-use Rattle.rc_args.specs.Asked.{ask_in}
+use Rattle.rc_args.specs.Asked.{ask_with}
 use Rattle.rc_args.specs.Limits.{IsRunLimitIn}
 use Rattle.rc_args.specs.SessionAsked.{AsksSessionIn, SessionAsk, Starts, session_ask_of}
 use Rattle.rc_args.specs.declared.once_words.Once.{Once}
@@ -54,9 +55,9 @@ once_command (Said SaysJournal) = codes "journal"
 once_command WantsDryUndo = codes "undo"
 once_command WantsDryRedo = codes "redo"
 
--- the matches of `change` ask this, with the limit that is given
-abbrev pub AsksChangeIn : List Row → Ask → Type 0
-AsksChangeIn rows ask = (ask_in rows ≡ Some (record ask { limit = 0 }))
+-- the matches of `change` ask this, with the limit that is given, where this flag counts as given
+abbrev pub AsksChangeIn : (flag : Text) → List Row → Ask → Type 0
+AsksChangeIn flag rows ask = (ask_with flag rows ≡ Some (record ask { limit = 0 }))
     × IsRunLimitIn (first_of (codes "limit") rows) ask.limit
 
 -- the matches of an undo or a redo give this limit
@@ -69,32 +70,40 @@ Adds words force (Said (SaysStep (Add name contents forced))) =
     (words ≡ name ∷ contents) × IsName name × (forced ≡ force)
 Adds words force other = ⊥
 
--- the matches of its command ask this: with the flag `dry` it is shown and not done
-abbrev pub AsksWhatIn : List Row → OnceSaying → Type 0
-AsksWhatIn rows (Said SaysNothing) = ⊥
-AsksWhatIn rows (Said SaysWrong) = ⊥
-AsksWhatIn rows (Said (SaysStep (Change ask events))) =
-    (is_on (codes "dry") rows ≡ false) × (events ≡ []) × AsksChangeIn rows ask
-AsksWhatIn rows (Said (SaysStep (Undo limit events))) =
+-- the matches of its command ask this, where this flag counts as given: with the flag `dry` it is
+-- shown and not done
+abbrev pub AsksWhatIn : (flag : Text) → List Row → OnceSaying → Type 0
+AsksWhatIn flag rows (Said SaysNothing) = ⊥
+AsksWhatIn flag rows (Said SaysWrong) = ⊥
+AsksWhatIn flag rows (Said (SaysStep (Change ask events))) =
+    (is_on (codes "dry") rows ≡ false) × (events ≡ []) × AsksChangeIn flag rows ask
+AsksWhatIn flag rows (Said (SaysStep (Undo limit events))) =
     (is_on (codes "dry") rows ≡ false) × (events ≡ []) × AsksStepIn rows limit
-AsksWhatIn rows (Said (SaysStep (Redo limit events))) =
+AsksWhatIn flag rows (Said (SaysStep (Redo limit events))) =
     (is_on (codes "dry") rows ≡ false) × (events ≡ []) × AsksStepIn rows limit
-AsksWhatIn rows (Said (SaysStep (Add name contents force))) =
+AsksWhatIn flag rows (Said (SaysStep (Add name contents force))) =
     Adds (words_in rows) (is_on (codes "force") rows) (Said (SaysStep (Add name contents force)))
-AsksWhatIn rows (Said (SaysStep (Delete words force))) =
+AsksWhatIn flag rows (Said (SaysStep (Delete words force))) =
     (words_in rows ≡ words) × (force ≡ is_on (codes "force") rows)
-AsksWhatIn rows (Said (SaysDry ask)) = (is_on (codes "dry") rows ≡ true) × AsksChangeIn rows ask
-AsksWhatIn rows (Said SaysLive) = Unit {0}
-AsksWhatIn rows (Said SaysBundles) = Unit {0}
-AsksWhatIn rows (Said SaysJournal) = Unit {0}
-AsksWhatIn rows WantsDryUndo = (is_on (codes "dry") rows ≡ true)
+AsksWhatIn flag rows (Said (SaysDry ask)) =
+    (is_on (codes "dry") rows ≡ true) × AsksChangeIn flag rows ask
+AsksWhatIn flag rows (Said SaysLive) = Unit {0}
+AsksWhatIn flag rows (Said SaysBundles) = Unit {0}
+AsksWhatIn flag rows (Said SaysJournal) = Unit {0}
+AsksWhatIn flag rows WantsDryUndo = (is_on (codes "dry") rows ≡ true)
     × ((limit : ℕ) × AsksStepIn rows limit)
-AsksWhatIn rows WantsDryRedo = (is_on (codes "dry") rows ≡ true)
+AsksWhatIn flag rows WantsDryRedo = (is_on (codes "dry") rows ≡ true)
     × ((limit : ℕ) × AsksStepIn rows limit)
 
--- the matches of the command of this name ask this to be done
-abbrev pub AsksWhat : Text → List Row → OnceSaying → Type 0
-AsksWhat name rows what = (name ≡ once_command what) × AsksWhatIn rows what
+-- the matches of the command of this name ask this to be done, where this flag counts as given
+abbrev pub AsksWhat : (name flag : Text) → List Row → OnceSaying → Type 0
+AsksWhat name flag rows what = (name ≡ once_command what) × AsksWhatIn flag rows what
+
+-- the word that entered the command gives it a flag, and wants names, but none is named: a slip is
+-- not to move what nobody named
+abbrev pub LacksNames : (flag : Text) → List Row → Type 0
+LacksNames flag rows =
+    (flag ≢ []) × (words_in rows ≡ []) × (is_on (codes "all") rows ≡ false)
 
 -- a word has no newline, so that an answer which names it is one line
 unfoldable pub IsOneLine : List ℕ → Type 0
@@ -103,10 +112,11 @@ IsOneLine word = Contains word 10 → ⊥
 abbrev pub AreOneLine : List (List ℕ) → Type 0
 AreOneLine words = All IsOneLine words
 
--- the matches ask this of a session of one line
-abbrev pub AsksOnceIn : List Row → OnceAsk → Type 0
-AsksOnceIn rows ask =
-    AsksWhatIn rows ask.what × AsksSessionIn rows ask.session × AreOneLine (words_in rows)
+-- the matches ask this of a session of one line, where this flag counts as given
+abbrev pub AsksOnceIn : (flag : Text) → List Row → OnceAsk → Type 0
+AsksOnceIn flag rows ask =
+    AsksWhatIn flag rows ask.what × AsksSessionIn rows ask.session × AreOneLine (words_in rows)
+    × (LacksNames flag rows → ⊥)
 
 -- what one line is to do, as the program has it
 abbrev pub once_saying_of : Once → OnceSaying

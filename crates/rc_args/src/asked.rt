@@ -3,8 +3,7 @@ ghost use Rattle.std.specs.Prelude.{◌≡◌, ◌≢◌, ◌⊎◌, ◌↔◌, 
 ghost use Rattle.std.specs.Prelude.{IsTrue};
 ghost use Rattle.clap.specs.Words.{found_of, rows_of};
 ghost use Rattle.rc_select.specs.Ask.{ask_of};
-ghost use Rattle.rc_args.specs.Words.{is_on as is_flag_on};
-ghost use Rattle.rc_args.specs.Asked.{AsksHelp, ask_in, plan_asked};
+ghost use Rattle.rc_args.specs.Asked.{AsksHelp, LacksWords, ask_with, is_on_with, plan_asked};
 ghost use Rattle.rc_streams.specs.Input.{AppendsFront, failure_text, fault_line};
 ghost use Rattle.rc_args.specs.declared.asked.WordsFault.TheVariants.{Memory};
 
@@ -42,6 +41,8 @@ pub enum WordsFault {
     NoFile,
     /// They name no file of the session or of its database, and the command wants both.
     Both,
+    /// They name no service, and the command wants one.
+    Names,
     /// Their first word is no name that a bundle may have.
     Name,
     /// One of them has a newline.
@@ -75,7 +76,7 @@ pub fn plan_asked(alloc: Global, words: &[String]) -> Result<Request, WordsFault
     match matches_in(alloc, words) {
         Ok(matches) => match command_in(&matches, "plan") {
             Some(inner) => {
-                let asked = plan_in(alloc, inner);
+                let asked = plan_in(alloc, inner, "");
                 drop(matches);
                 asked
             }
@@ -88,26 +89,35 @@ pub fn plan_asked(alloc: Global, words: &[String]) -> Result<Request, WordsFault
     }
 }
 
-// The flags of a command line.
+// The flags of a command line, and the one that counts as given.
 #[derive(Drop)]
-struct Given<'m, 'a>(&'m ArgMatches<'a>);
+struct Given<'m, 'a> {
+    matches: &'m ArgMatches<'a>,
+    flag: &'m str,
+}
 
 impl Flags for Given<'_, '_> {
-    ghost on = { λ given name. is_flag_on name (rows_of (found_of given.0.now)) };
+    ghost on = { λ given name.
+        is_on_with given.flag.now (rows_of (found_of given.matches.now)) name };
 
     fn is_on(&self, name: &str) -> bool {
-        is_on(self.0, name)
+        name == self.flag || is_on(self.matches, name)
     }
 }
 
-/// Reads the arguments of `plan`, which `change` has too, from the matches of the command.
-pub(crate) fn plan_in(alloc: Global, matches: &ArgMatches<'_>) -> Result<Request, WordsFault>
+/// Reads the arguments of `plan`, which `change` has too, from the matches of the command. The
+/// given flag counts as given; an empty one is none.
+pub(crate) fn plan_in(
+    alloc: Global,
+    matches: &ArgMatches<'_>,
+    flag: &str,
+) -> Result<Request, WordsFault>
     ensures asked { IfOk result (λ request.
-        ask_in (rows_of (found_of matches.now)) ≡ Some (ask_of request)) }
+        ask_with flag.now (rows_of (found_of matches.now)) ≡ Some (ask_of request)) }
     ensures wrong { IfErr result (λ fault.
-        fault ≢ Memory → ask_in (rows_of (found_of matches.now)) ≡ None) }
+        fault ≢ Memory → ask_with flag.now (rows_of (found_of matches.now)) ≡ None) }
 {
-    let chosen = Chosen::given(&Given(matches));
+    let chosen = Chosen::given(&Given { matches, flag });
     match chosen.mode() {
         Some(mode) => Ok(chosen.request(mode, words_in(alloc, matches)?)),
         None => Err(WordsFault::Ways),
@@ -121,6 +131,17 @@ pub fn asks_help(fault: &WordsFault) -> bool
 {
     match fault {
         WordsFault::Found(error) => error.kind() == ErrorKind::DisplayHelp,
+        _ => false,
+    }
+}
+
+/// Returns true if the arguments lack words that the command wants.
+pub fn lacks_words(fault: &WordsFault) -> bool
+    ensures { IsTrue result ↔ LacksWords fault.now }
+{
+    match fault {
+        WordsFault::Names => true,
+        WordsFault::Found(error) => error.kind() == ErrorKind::MissingRequiredArgument,
         _ => false,
     }
 }
@@ -158,8 +179,9 @@ fn words_of(fault: &WordsFault) -> &'static str {
         WordsFault::Live => "-l of db goes with the query dot alone",
         WordsFault::Files => "update wants -b and -l, or UNDORC_DB and UNDORC_LIVE, and -B",
         WordsFault::Both => "this command wants -b and -l, or UNDORC_DB and UNDORC_LIVE",
-        WordsFault::Session => "stop wants -l, or UNDORC_LIVE",
+        WordsFault::Session => "cancel wants -l, or UNDORC_LIVE",
         WordsFault::NoFile => "-l is missing, or UNDORC_LIVE: the file that keeps what is up",
+        WordsFault::Names => "start and stop want a name, or -a",
         WordsFault::Name => "add wants a name first: 1 to 255 bytes, without spaces and newlines",
         WordsFault::Newline => "a name has no newline",
         WordsFault::Workers => "-w wants a number from 1 to 64",

@@ -3,7 +3,9 @@ ghost use Rattle.std.specs.Prelude.{◌≡◌, ◌≢◌, ◌↔◌, map, string
 ghost use Rattle.std.specs.Prelude.{OnErr, OnOk};
 ghost use Rattle.clap.specs.Words.{found_of, rows_of, subcommand_rows_of};
 ghost use Rattle.rc_args.specs.Invocation.{InvocationAsk, Invokes, InvokesBy, InvokesEntered};
-ghost use Rattle.rc_args.specs.Invocation.{InvokesNamed, InvokesNothing, IsUsageFault};
+ghost use Rattle.rc_args.specs.CommandWords.{meaning_view};
+ghost use Rattle.rc_args.specs.Invocation.{InvokesMeant, InvokesNamed, InvokesNothing};
+ghost use Rattle.rc_args.specs.Invocation.{IsUsageFault};
 ghost use Rattle.rc_args.specs.Invocation.{LacksItsFile, invocation_ask_of, invocation_by};
 ghost use Rattle.rc_args.specs.Invocation.{wanted_files};
 ghost use Rattle.rc_args.specs.Defaults.{defaults_ask_of};
@@ -11,6 +13,7 @@ ghost use Rattle.rc_args.specs.declared.asked.WordsFault.TheVariants.{Memory};
 
 use crate::asked::{WordsFault, plan_in};
 use crate::cmdline::entered;
+use crate::command_words::{Meaning, meaning_of};
 use crate::compile_words::{CompileRequest, compile_in};
 use crate::db_words::{DbRequest, db_in};
 use crate::defaults::{Defaults, named_or};
@@ -39,7 +42,7 @@ pub enum Invocation<'a> {
     /// A command on the file of a session, and the file of its database.
     Session(SessionCommand<'a>, Option<&'a str>),
     /// Calls off the command that goes on with the session of this file.
-    Stop(Option<&'a str>),
+    Cancel(Option<&'a str>),
     /// The version of the program.
     Version,
 }
@@ -93,7 +96,7 @@ fn invocation_in<'a>(alloc: Global, matches: &ArgMatches<'a>) -> Result<Invocati
     }
 }
 
-// Creates the invocation of the command with the given name from its matches.
+// Creates the invocation of the command that a word stands for from its matches.
 fn invocation_named<'a>(
     alloc: Global,
     name: &str,
@@ -104,20 +107,34 @@ fn invocation_named<'a>(
     ensures wrong { IfErr result (λ fault. fault ≢ Memory → (ask : InvocationAsk) →
         InvokesNamed name.now (rows_of (found_of matches.now)) ask → ⊥) }
 {
+    invocation_meant(alloc, meaning_of(name), matches)
+}
+
+// Creates the invocation of a command, of which a flag may count as given, from its matches.
+fn invocation_meant<'a>(
+    alloc: Global,
+    meaning: Meaning<'_>,
+    matches: &ArgMatches<'a>,
+) -> Result<Invocation<'a>, WordsFault>
+    ensures asked { IfOk result (λ invocation. InvokesMeant (meaning_view meaning.entry)
+        (rows_of (found_of matches.now)) (invocation_ask_of invocation)) }
+    ensures wrong { IfErr result (λ fault. fault ≢ Memory → (ask : InvocationAsk) →
+        InvokesMeant (meaning_view meaning.entry) (rows_of (found_of matches.now)) ask → ⊥) }
+{
     let base = text_in(matches, "base");
-    let command = match name {
+    let command = match meaning.command {
         "compile" => return Ok(Invocation::Compile(compile_in(alloc, matches)?)),
         "db" => return Ok(Invocation::Db(db_in(alloc, matches)?, base)),
-        "plan" => return Ok(Invocation::Plan(plan_in(alloc, matches)?, base)),
+        "plan" => return Ok(Invocation::Plan(plan_in(alloc, matches, "")?, base)),
         "replay" => return Ok(Invocation::Replay(base)),
-        "stop" => return Ok(Invocation::Stop(text_in(matches, "live"))),
+        "cancel" => return Ok(Invocation::Cancel(text_in(matches, "live"))),
         "version" => return Ok(Invocation::Version),
         "session" => SessionCommand::Lines(lines_in(alloc, matches)?),
         "update" => SessionCommand::Update(update_in(alloc, matches)?),
         "restart" => SessionCommand::Restart(named_in(alloc, matches)?),
         "seal" => SessionCommand::Seal(session_in(alloc, matches)?),
         "status" => SessionCommand::Status(named_in(alloc, matches)?),
-        _ => SessionCommand::Line(once_in(alloc, name, matches)?),
+        _ => SessionCommand::Line(once_in(alloc, meaning, matches)?),
     };
     Ok(Invocation::Session(command, base))
 }
@@ -159,7 +176,7 @@ impl<'a> Invocation<'a> {
                 let file = named_or(file, defaults.base);
                 Invocation::Session(command.with_defaults(defaults), file)
             }
-            Invocation::Stop(file) => Invocation::Stop(named_or(file, defaults.live)),
+            Invocation::Cancel(file) => Invocation::Cancel(named_or(file, defaults.live)),
             other => other,
         }
     }
@@ -170,7 +187,7 @@ impl<'a> Invocation<'a> {
     {
         match self {
             Invocation::Session(command, file) => command.lacks_its_file(*file),
-            Invocation::Stop(file) => file.is_none(),
+            Invocation::Cancel(file) => file.is_none(),
             _ => false,
         }
     }
@@ -181,7 +198,7 @@ impl<'a> Invocation<'a> {
     {
         match self {
             Invocation::Session(command, _) => command.wanted_files(),
-            Invocation::Stop(_) => WordsFault::Session,
+            Invocation::Cancel(_) => WordsFault::Session,
             _ => WordsFault::Both,
         }
     }

@@ -3,6 +3,7 @@
 
 mod asked;
 mod cmdline;
+mod command_words;
 mod compile_words;
 mod db_words;
 mod defaults;
@@ -23,7 +24,7 @@ mod transitions;
 mod update_words;
 mod verbosity;
 
-pub use crate::asked::{WordsFault, asks_help, plan_asked, tell_words};
+pub use crate::asked::{WordsFault, asks_help, lacks_words, plan_asked, tell_words};
 pub use crate::cmdline::{NameQuery, NamesQuery};
 pub use crate::compile_words::CompileRequest;
 pub use crate::db_words::{DbRequest, Query, db_asked};

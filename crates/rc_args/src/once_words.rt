@@ -1,9 +1,9 @@
 //! The arguments of a session of one line.
-ghost use Rattle.std.specs.Prelude.{◌≡◌, ◌≢◌, ◌↔◌, codes, map, All, IfErr, IfOk};
+ghost use Rattle.std.specs.Prelude.{◌≡◌, ◌≢◌, ◌↔◌, [], codes, map, All, IfErr, IfOk};
 ghost use Rattle.std.specs.Prelude.{IsTrue};
-ghost use Rattle.clap.specs.Words.{found_of, rows_of};
+ghost use Rattle.clap.specs.Words.{Text, found_of, rows_of};
 ghost use Rattle.rc_args.specs.Defaults.{session_by, defaults_ask_of};
-ghost use Rattle.rc_args.specs.OnceAsked.{AreOneLine, IsOneLine, IsShown, LacksFile};
+ghost use Rattle.rc_args.specs.OnceAsked.{AreOneLine, IsOneLine, IsShown, LacksFile, LacksNames};
 ghost use Rattle.rc_args.specs.Words.{words_in as words_rows};
 ghost use Rattle.rc_args.specs.OnceAsked.{Adds, AsksOnceIn, AsksWhat, OnceAsk};
 ghost use Rattle.rc_args.specs.OnceAsked.{OnceSaying};
@@ -12,6 +12,7 @@ ghost use Rattle.rc_args.specs.declared.asked.WordsFault.TheVariants.{Memory};
 
 use crate::asked::{WordsFault, plan_in};
 use crate::cmdline::is_on;
+use crate::command_words::Meaning;
 use crate::defaults::Defaults;
 use crate::limits::run_limit_of;
 use crate::session_request::SessionRequest;
@@ -79,24 +80,28 @@ impl Once {
     }
 }
 
-/// Reads the arguments of the command with the given name, which is a session of one line, from its
-/// matches.
+/// Reads the arguments of a command, which is a session of one line and of which a flag may count
+/// as given, from its matches.
 pub(crate) fn once_in<'a>(
     alloc: Global,
-    name: &str,
+    meaning: Meaning<'_>,
     matches: &ArgMatches<'a>,
 ) -> Result<OnceRequest<'a>, WordsFault>
-    ensures named { IfOk result (λ request. name.now ≡ once_command (once_saying_of request.once)) }
-    ensures asked { IfOk result (λ request.
-        AsksOnceIn (rows_of (found_of matches.now)) (once_ask_of request)) }
+    ensures named { IfOk result (λ request.
+        meaning.entry.command.now ≡ once_command (once_saying_of request.once)) }
+    ensures asked { IfOk result (λ request. AsksOnceIn meaning.entry.flag.now
+        (rows_of (found_of matches.now)) (once_ask_of request)) }
     ensures wrong { IfErr result (λ fault. fault ≢ Memory → (ask : OnceAsk) →
-        name.now ≡ once_command ask.what →
-        AsksOnceIn (rows_of (found_of matches.now)) ask → ⊥) }
+        meaning.entry.command.now ≡ once_command ask.what →
+        AsksOnceIn meaning.entry.flag.now (rows_of (found_of matches.now)) ask → ⊥) }
 {
     if !are_one_line(matches) {
         return Err(WordsFault::Newline);
     }
-    let once = what_in(alloc, name, matches)?;
+    if lacks_names(matches, meaning.flag) {
+        return Err(WordsFault::Names);
+    }
+    let once = what_in(alloc, meaning, matches)?;
     let session = session_in(alloc, matches)?;
     Ok(OnceRequest { once, session })
 }
@@ -126,15 +131,37 @@ fn is_one_line(word: &str) -> bool
     !word.as_bytes().contains(&b'\n')
 }
 
-// Returns what the command with the given name is to do, according to its matches.
-fn what_in(alloc: Global, name: &str, matches: &ArgMatches<'_>) -> Result<Once, WordsFault>
-    ensures asked { IfOk result (λ once.
-        AsksWhat name.now (rows_of (found_of matches.now)) (once_saying_of once)) }
-    ensures wrong { IfErr result (λ fault. fault ≢ Memory → (what : OnceSaying) →
-        AsksWhat name.now (rows_of (found_of matches.now)) what → ⊥) }
+// Returns true if a flag counts as given and the matches name nothing.
+fn lacks_names(matches: &ArgMatches<'_>, flag: &str) -> bool
+    ensures { IsTrue result ↔ LacksNames flag.now (rows_of (found_of matches.now)) }
 {
-    match name {
-        "change" => change_in(alloc, matches),
+    !flag.is_empty() && has_no_words(matches) && !is_on(matches, "all")
+}
+
+// Returns true if there are no positional arguments.
+fn has_no_words(matches: &ArgMatches<'_>) -> bool
+    ensures { IsTrue result ↔ (words_rows (rows_of (found_of matches.now)) ≡ []) }
+{
+    match matches.get_strs("words") {
+        Some(words) => words.is_empty(),
+        None => true,
+    }
+}
+
+// Returns what a command is to do, of which a flag may count as given, according to its matches.
+fn what_in(
+    alloc: Global,
+    meaning: Meaning<'_>,
+    matches: &ArgMatches<'_>,
+) -> Result<Once, WordsFault>
+    ensures asked { IfOk result (λ once. AsksWhat meaning.entry.command.now meaning.entry.flag.now
+        (rows_of (found_of matches.now)) (once_saying_of once)) }
+    ensures wrong { IfErr result (λ fault. fault ≢ Memory → (what : OnceSaying) →
+        AsksWhat meaning.entry.command.now meaning.entry.flag.now
+        (rows_of (found_of matches.now)) what → ⊥) }
+{
+    match meaning.command {
+        "change" => change_in(alloc, matches, meaning.flag),
         "undo" => undo_in(alloc, matches),
         "redo" => redo_in(alloc, matches),
         "add" => add_in(alloc, matches),
@@ -146,17 +173,17 @@ fn what_in(alloc: Global, name: &str, matches: &ArgMatches<'_>) -> Result<Once, 
     }
 }
 
-// Returns what `change` is to do, according to its matches.
-fn change_in(alloc: Global, matches: &ArgMatches<'_>) -> Result<Once, WordsFault>
-    ensures asked { IfOk result (λ once.
-        AsksWhat (codes "change") (rows_of (found_of matches.now)) (once_saying_of once)) }
+// Returns what `change` is to do, according to its matches and the flag that counts as given.
+fn change_in(alloc: Global, matches: &ArgMatches<'_>, flag: &str) -> Result<Once, WordsFault>
+    ensures asked { IfOk result (λ once. AsksWhat (codes "change") flag.now
+        (rows_of (found_of matches.now)) (once_saying_of once)) }
     ensures wrong { IfErr result (λ fault. fault ≢ Memory → (what : OnceSaying) →
-        AsksWhat (codes "change") (rows_of (found_of matches.now)) what → ⊥) }
+        AsksWhat (codes "change") flag.now (rows_of (found_of matches.now)) what → ⊥) }
 {
     let Some(limit) = run_limit_of(matches.get_str("limit")) else {
         return Err(WordsFault::Limit);
     };
-    let mut request = plan_in(alloc, matches)?;
+    let mut request = plan_in(alloc, matches, flag)?;
     request.limit = limit;
     if is_on(matches, "dry") {
         return Ok(Once::Line(SessionLine::Dry(request)));
@@ -166,10 +193,11 @@ fn change_in(alloc: Global, matches: &ArgMatches<'_>) -> Result<Once, WordsFault
 
 // Returns what `undo` is to do, according to its matches.
 fn undo_in(alloc: Global, matches: &ArgMatches<'_>) -> Result<Once, WordsFault>
-    ensures asked { IfOk result (λ once.
-        AsksWhat (codes "undo") (rows_of (found_of matches.now)) (once_saying_of once)) }
-    ensures wrong { IfErr result (λ fault. fault ≢ Memory → (what : OnceSaying) →
-        AsksWhat (codes "undo") (rows_of (found_of matches.now)) what → ⊥) }
+    ensures asked { IfOk result (λ once. (flag : Text) →
+        AsksWhat (codes "undo") flag (rows_of (found_of matches.now)) (once_saying_of once)) }
+    ensures wrong { IfErr result (λ fault. fault ≢ Memory →
+        (flag : Text) (what : OnceSaying) →
+        AsksWhat (codes "undo") flag (rows_of (found_of matches.now)) what → ⊥) }
 {
     let Some(limit) = run_limit_of(matches.get_str("limit")) else {
         return Err(WordsFault::Limit);
@@ -182,10 +210,11 @@ fn undo_in(alloc: Global, matches: &ArgMatches<'_>) -> Result<Once, WordsFault>
 
 // Returns what `redo` is to do, according to its matches.
 fn redo_in(alloc: Global, matches: &ArgMatches<'_>) -> Result<Once, WordsFault>
-    ensures asked { IfOk result (λ once.
-        AsksWhat (codes "redo") (rows_of (found_of matches.now)) (once_saying_of once)) }
-    ensures wrong { IfErr result (λ fault. fault ≢ Memory → (what : OnceSaying) →
-        AsksWhat (codes "redo") (rows_of (found_of matches.now)) what → ⊥) }
+    ensures asked { IfOk result (λ once. (flag : Text) →
+        AsksWhat (codes "redo") flag (rows_of (found_of matches.now)) (once_saying_of once)) }
+    ensures wrong { IfErr result (λ fault. fault ≢ Memory →
+        (flag : Text) (what : OnceSaying) →
+        AsksWhat (codes "redo") flag (rows_of (found_of matches.now)) what → ⊥) }
 {
     let Some(limit) = run_limit_of(matches.get_str("limit")) else {
         return Err(WordsFault::Limit);
@@ -198,10 +227,11 @@ fn redo_in(alloc: Global, matches: &ArgMatches<'_>) -> Result<Once, WordsFault>
 
 // Returns what `add` is to do, according to its matches.
 fn add_in(alloc: Global, matches: &ArgMatches<'_>) -> Result<Once, WordsFault>
-    ensures asked { IfOk result (λ once.
-        AsksWhat (codes "add") (rows_of (found_of matches.now)) (once_saying_of once)) }
-    ensures wrong { IfErr result (λ fault. fault ≢ Memory → (what : OnceSaying) →
-        AsksWhat (codes "add") (rows_of (found_of matches.now)) what → ⊥) }
+    ensures asked { IfOk result (λ once. (flag : Text) →
+        AsksWhat (codes "add") flag (rows_of (found_of matches.now)) (once_saying_of once)) }
+    ensures wrong { IfErr result (λ fault. fault ≢ Memory →
+        (flag : Text) (what : OnceSaying) →
+        AsksWhat (codes "add") flag (rows_of (found_of matches.now)) what → ⊥) }
 {
     let force = is_on(matches, "force");
     match matches.get_strs("words") {
@@ -232,8 +262,8 @@ fn bundle_of(alloc: Global, words: &[&str], force: bool) -> Result<Once, WordsFa
 
 // Returns what `delete` is to do, according to its matches.
 fn delete_in(alloc: Global, matches: &ArgMatches<'_>) -> Result<Once, WordsFault>
-    ensures asked { IfOk result (λ once.
-        AsksWhat (codes "delete") (rows_of (found_of matches.now)) (once_saying_of once)) }
+    ensures asked { IfOk result (λ once. (flag : Text) →
+        AsksWhat (codes "delete") flag (rows_of (found_of matches.now)) (once_saying_of once)) }
     ensures wrong { IfErr result (λ fault. fault ≡ Memory) }
 {
     let names = words_in(alloc, matches)?;

@@ -13,6 +13,7 @@ mod hints;
 mod moves;
 mod querying;
 mod terminal;
+mod typing;
 
 pub use crate::frontend::answers::Answers;
 pub use crate::frontend::compiling::compile;
@@ -23,3 +24,4 @@ pub use crate::frontend::hints::{
 pub use crate::frontend::moves::{tell_moves, tell_renames};
 pub use crate::frontend::querying::query;
 pub use crate::frontend::terminal::Typed;
+pub use crate::frontend::typing::{FileOptions, ForShell};

@@ -3,13 +3,14 @@ ghost use Rattle.rc_streams.specs.Noting.{HasFailed};
 
 use crate::history;
 use crate::notes::{tell_left, tell_note, tell_opening, tell_session};
+use crate::restarts::tell_down;
 use crate::updates::tell_why;
 use crate::workers::tell_workers;
 use log::warn;
 use rc_args::{Once, SessionCommand, Verbosity};
 use rc_cli::sessions::{Devices, Outputs, Store, TextKeeper};
 use rc_launch::frontend::{
-    Answers, Seen, ToldErrors, Typed, behind_session, tell_failure, told_errors,
+    Answers, FileOptions, Seen, ToldErrors, Typed, behind_session, tell_failure, told_errors,
 };
 use rc_launch::{LiveStore, Opened, open};
 use rc_names::NoMem;
@@ -31,8 +32,12 @@ pub fn carry_out<'a, T: Threads + Wait + Sync>(
     match open(rt, command, file) {
         Ok((opened, store)) => {
             tell_note(rt, opened.note());
-            tell_session(rt, &opened);
-            let status = carry_out_on(rt, threads, &opened, store);
+            let files = FileOptions {
+                base: file,
+                live: opened.session().live,
+            };
+            tell_session(rt, &opened, files);
+            let status = carry_out_on(rt, threads, &opened, files, store);
             drop(opened);
             status
         }
@@ -45,13 +50,14 @@ fn carry_out_on<'x, T: Threads + Wait + Sync>(
     rt: &'x HostRuntime,
     threads: &'x T,
     opened: &'x Opened<'x>,
+    files: FileOptions<'x>,
     store: LiveStore<'x>,
 ) -> u8 {
     let Ok(store) = store.of(opened) else {
         return tell_failure(rt, "Memory");
     };
     let mut typed = Typed::new(rt, reads(opened));
-    let mut answers = Answers::new(rt, base_in(opened));
+    let mut answers = Answers::new(rt, base_in(opened), files);
     let mut devices = devices_of(rt, &mut typed, &mut answers, store);
     let status = rc_launch::carry_out(rt, threads, opened, &mut devices).code();
     close(rt, opened);
@@ -65,6 +71,7 @@ fn carry_out_on<'x, T: Threads + Wait + Sync>(
     tell_hints(rt, opened, typed.kept(), &answers, store.error(), &told);
     tell_workers(rt, threads, &told);
     tell_why(rt, opened, status);
+    tell_down(rt, opened, files, status);
     tell_left(rt, opened);
     status
 }

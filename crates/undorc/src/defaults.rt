@@ -62,7 +62,7 @@ pub fn unread_in(invocation: &Invocation<'_>) -> Option<&'static str> {
         Invocation::Session(command, base) => {
             unread_of(command.session(), *base, runs_scripts(command))
         }
-        Invocation::Stop(live) => unread(*live),
+        Invocation::Cancel(live) => unread(*live),
     }
 }
 
@@ -79,7 +79,7 @@ fn unread_of(session: &SessionRequest<'_>, base: Option<&str>, runs: bool) -> Op
 }
 
 /// Returns true if a command may run scripts.
-fn runs_scripts(command: &SessionCommand<'_>) -> bool {
+pub fn runs_scripts(command: &SessionCommand<'_>) -> bool {
     match command {
         SessionCommand::Lines(_) | SessionCommand::Restart(_) => true,
         SessionCommand::Line(request) => is_run(&request.once),

@@ -1,22 +1,25 @@
 //! `undorc`: hands the process's words, files and streams to the library.
 #![tactic(auto)]
 
+mod cancelling;
 mod commands;
 mod defaults;
 mod history;
 mod notes;
 mod own_name;
-mod stopping;
+mod programs;
+mod restarts;
 mod updates;
 mod usage;
 mod workers;
 
+use crate::cancelling::cancel;
 use crate::commands::carry_out;
 use crate::defaults::{DefaultTexts, defaults_at, unread_in};
 use crate::own_name::words;
-use crate::stopping::stop;
+use crate::programs::tell_programs;
 use crate::updates::update;
-use crate::usage::tell_wrong;
+use crate::usage::{asks_version, tell_wrong};
 use log::error;
 use rc_args::{Invocation, SessionCommand, invocation_of};
 use rc_cli::queries::Query;
@@ -26,8 +29,9 @@ use std::io::{self, ErrorKind};
 use std::process::ExitCode;
 
 /// A wrong command line.
-const WRONG_LINE: u8 = 100;
-/// What `undorc version` prints: the first entry of NEWS, with its date if it is a release.
+pub const WRONG_LINE: u8 = 100;
+/// What `undorc version` and `undorc --version` print: the first entry of NEWS, with its date if it
+/// is a release.
 const VERSION: &str = "undorc 0.2.0, in development";
 
 fn main(rt: HostRuntime) -> ExitCode {
@@ -44,7 +48,7 @@ fn main(rt: HostRuntime) -> ExitCode {
                     Invocation::Db(request, file) => query(&rt, Query::Db(&request, None), file),
                     Invocation::Plan(request, file) => query(&rt, Query::Plan(&request), file),
                     Invocation::Replay(file) => query(&rt, Query::Replay, file),
-                    Invocation::Stop(file) => stop(&rt, file.unwrap_or("")),
+                    Invocation::Cancel(file) => cancel(&rt, file.unwrap_or("")),
                     Invocation::Version => version(&rt),
                 },
                 Err(status) => status,
@@ -55,17 +59,20 @@ fn main(rt: HostRuntime) -> ExitCode {
     ExitCode::from(status)
 }
 
-/// Reads the command line with these defaults. If it is wrong, prints why and returns the status.
+/// Reads the command line with these defaults. If it is wrong, names a program that does not exist
+/// or only wants the version, prints why or the version, and returns the status.
 fn asked<'a>(
     rt: &HostRuntime,
     words: &'a [String],
     defaults: &'a DefaultTexts,
 ) -> Result<Invocation<'a>, u8> {
+    if asks_version(words) {
+        return Err(version(rt));
+    }
     match defaults.texts() {
         Ok(defaults) => match invocation_of(rt.alloc(), words, defaults) {
-            Ok(invocation) => match unread_in(&invocation) {
-                Some(variable) => {
-                    let status = tell_unread(rt, variable);
+            Ok(invocation) => match unfit(rt, &invocation) {
+                Some(status) => {
                     drop(invocation);
                     Err(status)
                 }
@@ -74,6 +81,15 @@ fn asked<'a>(
             Err(fault) => Err(tell_wrong(rt, words, &fault)),
         },
         Err(_) => Err(tell_failure(rt, "Memory")),
+    }
+}
+
+/// Reports a variable that is no text, or a program that can't be started, if the invocation uses
+/// one, and returns the status.
+fn unfit(rt: &HostRuntime, invocation: &Invocation<'_>) -> Option<u8> {
+    match unread_in(invocation) {
+        Some(variable) => Some(tell_unread(rt, variable)),
+        None => tell_programs(rt, invocation),
     }
 }
 

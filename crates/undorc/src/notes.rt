@@ -1,6 +1,6 @@
 //! Messages about the lock and the run log beside the file of a session.
 use log::info;
-use rc_launch::frontend::{tell_failure, tell_file, tell_no_history};
+use rc_launch::frontend::{FileOptions, ForShell, tell_failure, tell_file, tell_no_history};
 use rc_launch::{FileText, LiveText, Note, OpenFault, Opened, left_report};
 use rc_streams::inherited::Unfit;
 use rc_streams::messages::{HINT, MESSAGE, Messages};
@@ -26,10 +26,11 @@ pub fn tell_note(rt: &HostRuntime, note: &Note<'_>) {
 /// Reports a file of `-b` that is not used because the session has a database of its own, and a
 /// file of `-l` that is only looked at and does not exist. Also reports an update or a restart that
 /// was cut short, if the command takes nothing of it back.
-pub fn tell_session(rt: &HostRuntime, opened: &Opened<'_>) {
+pub fn tell_session(rt: &HostRuntime, opened: &Opened<'_>, files: FileOptions<'_>) {
     if let Some(path) = opened.unused_base() {
+        let new = ForShell(path);
         info!(Messages(rt); target: MESSAGE,
-            "{path} is not the database of this session: undorc update carries it over");
+            "{path} is not the database of this session: undorc update{files} -B {new} carries it over");
     }
     if let (false, Some(path), Ok(None)) = (
         opened.moves(),
@@ -40,7 +41,7 @@ pub fn tell_session(rt: &HostRuntime, opened: &Opened<'_>) {
     }
     if opened.moves() && opened.goes_on_from_passed(rt.alloc()) {
         info!(Messages(rt); target: MESSAGE,
-            "an update or a restart was not finished: undorc undo takes it back");
+            "an update or a restart was not finished: undorc undo{files} takes it back");
     }
 }
 

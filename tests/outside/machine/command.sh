@@ -39,7 +39,7 @@ status 0' 'undorc-machine plan -d d'
 step 'a session' 'live d o
 ok
 status 0' 'echo live | undorc-machine session'
-step 'a command that is not under way is not called off' 'status 1' 'undorc-machine stop'
+step 'a command that is not under way is not called off' 'status 1' 'undorc-machine cancel'
 step 'where the supervisor stands' 'd up wanted
 status 0' 'undorc-machine says'
 step 'lint takes the sources of the machine' 'status 1' 'undorc-machine lint > /run/x'

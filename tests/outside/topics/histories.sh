@@ -53,7 +53,10 @@ places() {
     judge "the place and the marks after $said" 0
 }
 told=''
-unused='is not the database of this session: undorc update carries it over\n'
+# not_of_session FILE: what is told of a file of -b that is not the database of the session
+not_of_session() {
+    printf 'undorc: %s is not the database of this session: undorc update -b %s -l live -B %s carries it over' "$1" "$1" "$1"
+}
 tree_service one a
 tree_service one b a
 tree_service one c
@@ -93,18 +96,18 @@ does 1 'refused NothingToUndo\n' '' undo -b one.db
 does 0 'raised a b\nok\n' 'up a one\nup b one\n' redo -b one.db
 
 # The database of the session is the one in its file: another one that is named is told of, and not used.
-told="undorc: two.db $unused"
+told="$(not_of_session two.db)\n"
 does 0 'raised c\nok\n' 'up c one\n' change c -b two.db
 does 0 'lowered c\nok\n' 'down c one\n' undo -b nowhere.db
 does 0 'raised c\nok\n' 'up c one\n' redo
 does 0 'lowered c\nok\n' 'down c one\n' undo
 cp one.db kept.db
 "$program" compile -o one.db two
-told="undorc: one.db $unused"
+told="$(not_of_session one.db)\n"
 does 0 'raised c\nok\n' 'up c one\n' change c -b one.db
 mv kept.db one.db
 does 0 'lowered c\nok\n' 'down c one\n' undo -b one.db
-told="undorc: two.db $unused"
+told="$(not_of_session two.db)\n"
 does 0 'a up\nb up\nc down\n' '' status -b two.db
 
 # A picture shows the database of the session, and what is up.

@@ -302,12 +302,18 @@ answers 1 'refused Unknown wbe\n' 'nothing is named wbe; is web meant?' "$(sed '
 answers 0 'refused Unknown dis\nlive\nok\n' 'nothing is named dis; is disk meant?' 'change dis\nlive\n' session -b db -x none
 answers 0 'refused Unknown dis\nlive\nok\n' 'nothing is named dis; is disk meant?' "$(sed 's/$/\\n/' whole | tr -d '\n')change dis\nlive\n" session -x none
 answers 0 'refused Unknown -u\n' "options stand in front of a line's word: -u change web" 'change -u web\n' session -b db -x none
-answers 1 'refused Unknown nobody\n' 'nothing is named nobody; undorc db list all prints the names' '' change -b db -x none nobody
-answers 1 'refused NothingToUndo\n' 'no change is left to undo; undorc journal prints those that are kept' '' undo -b db -x none
-answers 1 'refused NothingToRedo\n' 'no change is undone; undorc journal prints where the session stands' '' redo -b db -x none
+answers 1 'refused Unknown nobody\n' 'nothing is named nobody; undorc db -b db list all prints the names' '' change -b db -x none nobody
+answers 1 'refused Unknown nobody\n' 'nothing is named nobody in the database on standard input' "$(sed 's/$/\\n/' whole | tr -d '\n')" change -x none nobody
+answers 1 'refused NothingToUndo\n' 'no change is left to undo' '' undo -b db -x none
+answers 1 'refused NothingToUndo\n' 'no change is left to undo; undorc journal -b db -l bundled prints those that are kept' '' undo -b db -l bundled -x none
+answers 0 'refused NothingToUndo\nok\n' 'no change is left to undo; undorc journal -b db -l bundled prints those that are kept' 'undo\nchange\n' session -b db -l bundled -x none
+cp db "its db"
+answers 1 'refused NothingToUndo\n' "no change is left to undo; undorc journal -b 'its db' -l bundled prints those that are kept" '' undo -b 'its db' -l bundled -x none
+rm "its db"
+answers 1 'refused NothingToRedo\n' 'no change is undone; undorc journal -b db -l bundled prints where the session stands' '' redo -b db -l bundled -x none
 answers 1 'refused PruneNeedsUp\n' '-p goes with neither -d nor -D' '' change -pd -b db -x none web
 answers 1 'refused IsAtomic web\n' 'a service has this name, and only bundles are added and deleted' '' add -b db -l bundled web disk
-answers 1 'refused Missing nobody\n' 'no bundle has this name; undorc bundles prints them' '' delete -b db -l bundled nobody
+answers 1 'refused Missing nobody\n' 'no bundle has this name; undorc bundles -b db -l bundled prints them' '' delete -b db -l bundled nobody
 answers 1 'refused Exists all\n' 'a bundle has this name; -f replaces it' '' add -b db -l bundled all disk
 
 # A command that other programs have, or that was meant, is named after a wrong command line.
@@ -320,13 +326,12 @@ means() {
     : > err
     judge "undorc $*, which is no command" 100
 }
-means 'undorc change NAME brings services up' start web
-means 'undorc change NAME brings services up' up web
-means 'undorc change -d NAME brings services down' down web
-means 'undorc change -d NAME brings services down; undorc stop calls a command off' stop web
-means 'undorc live prints what is up; undorc db list all prints all names' list
-means 'undorc version prints the version' --version
-means 'undorc version prints the version' -V
+means 'undorc start web brings services up' up web
+means 'undorc start NAME brings services up' up
+means "undorc start -b db -l 'my live' web brings services up" up -b db -l 'my live' web
+means 'undorc stop -b db web brings services down' down -b db web
+means 'undorc cancel calls a command off' stop
+means 'undorc cancel -l live calls a command off' stop -b db -l live -q
 
 # Who looks at a session whose file does not exist is told so.
 for words in live bundles journal status 'undo -n'; do

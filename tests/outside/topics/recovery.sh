@@ -256,7 +256,7 @@ killed_update() {
 half next base
 expect 0 'at 1 of 2\n0 +a +b +slow\nok\n' 'undorc: Recovered\n' 'journal\n' session -b next -l live -x none
 half base next
-told='undorc: Recovered\nundorc: an update or a restart was not finished: undorc undo takes it back\n'
+told='undorc: Recovered\nundorc: an update or a restart was not finished: undorc undo -b next -l live takes it back\n'
 expect 0 'live a b\nok\n' "$told" 'live\n' session -b next -l live -x none
 # An update that is given again enters it, takes it back, and carries over.
 half next base
@@ -309,34 +309,34 @@ rm -f live ran go begun
 called=$!
 until_begun
 expect 0 'live\nok\n' 'undorc: a command is under way\n' '' live -b base -l live
-expect 0 '' '' '' stop -l live
-expect 0 '' 'undorc: live is being stopped: what is under way there ends\n' '' stop -l live
+expect 0 '' '' '' cancel -l live
+expect 0 '' 'undorc: live is being stopped: what is under way there ends\n' '' cancel -l live
 : > go
 echo 0 > status
 wait "$called" || echo $? > status
 expect 0 'live a b slow\nok\n' '' '' live -b base -l live
 scripts_ran 'what a command moved that was called off' 'up a\nup b\nup slow\n'
-expect 1 '' 'undorc: no command is under way on live\n' '' stop -l live
-expect 1 '' 'undorc: no command is under way on nowhere\n' '' stop -l nowhere
-holds 'stop makes no lock' test ! -e nowhere.lock
-wrong stop
-says 'stop wants -l, or UNDORC_LIVE'
-wrong stop -l live more
+expect 1 '' 'undorc: no command is under way on live\n' '' cancel -l live
+expect 1 '' 'undorc: no command is under way on nowhere\n' '' cancel -l nowhere
+holds 'cancel makes no lock' test ! -e nowhere.lock
+wrong cancel
+says 'cancel wants -l, or UNDORC_LIVE'
+wrong cancel -l live more
 # What was called off is not in the next command.
 expect 0 'raised top\nok\n' '' '' change top -b base -l live
 
 # The status is 2, and the answer names what was not tried; TERM and INT do the same where they are blocked.
-for signal in stop TERM INT HUP; do
+for signal in cancel TERM INT HUP; do
     rm -f live ran go begun
     echo 0 > status
-    if [ "$signal" = stop ]; then
+    if [ "$signal" = cancel ]; then
         "$program" change -w 1 top -b base -l live < /dev/null > out 2> err &
     else
         env --block-signal="$signal" "$program" change -w 1 top -b base -l live < /dev/null > out 2> err &
     fi
     called=$!
     until_begun
-    if [ "$signal" = stop ]; then UNDORC_LIVE=live "$program" stop; else kill "-$signal" "$called"; fi
+    if [ "$signal" = cancel ]; then UNDORC_LIVE=live "$program" cancel; else kill "-$signal" "$called"; fi
     : > go
     wait "$called" || echo $? > status
     wants 'raised a b slow\nuntried top\nok\n' ''
@@ -407,7 +407,7 @@ wants 'orderly: setsid is missing, so ^C at a terminal ends scripts, too\nraised
 judge 'orderly without setsid at a terminal' 0
 rm -r few
 
-# Where env can't block signals, orderly calls the command off by `undorc stop`.
+# Where env can't block signals, orderly calls the command off by `undorc cancel`.
 mkdir plain
 printf '#!/bin/sh\nexit 1\n' > plain/env
 chmod 755 plain/env
@@ -459,7 +459,7 @@ if command -v strace > /dev/null && command -v flock > /dev/null; then
         "$program" change -w 1 b -b base -l live < /dev/null > out 2> err &
     called=$!
     until [ -s live.lock ] && ! flock -n live.lock true; do sleep 0.02; done
-    expect 0 '' '' '' stop -l live
+    expect 0 '' '' '' cancel -l live
     wait "$called" || echo $? > status
     "$program" live -b base -l live > out
     wants 'live\nok\n' ''
@@ -495,7 +495,7 @@ for what in 'rm live.stop' 'printf "stop 1" >> live.stop'; do
     called=$!
     until_begun
     sh -c "$what"
-    expect 0 '' '' '' stop -l live
+    expect 0 '' '' '' cancel -l live
     : > go
     echo 0 > status
     wait "$called" || echo $? > status
@@ -511,7 +511,7 @@ if command -v strace > /dev/null; then
     "$program" change -w 1 top -b base -l live < /dev/null > out 2> err &
     called=$!
     until_begun
-    ASAN_OPTIONS=detect_leaks=0 strace -f -o trace -e trace=write "$program" stop -l live
+    ASAN_OPTIONS=detect_leaks=0 strace -f -o trace -e trace=write "$program" cancel -l live
     : > go
     wait "$called" || true
     grep -c 'write(.*stop' trace > out || true
@@ -532,7 +532,7 @@ hear
 rm live.stop
 tell '-t 60000 change top'
 until_begun
-"$program" stop -l live || echo "$?" >> out
+"$program" cancel -l live || echo "$?" >> out
 : > go
 hear
 wants 'raise a b slow top\nok\nraised a b slow\nuntried top\nok\n' ''
@@ -543,11 +543,11 @@ rm -f live ran go begun
 begins -b base -l live -w 1
 tell '-t 60000 change top'
 until_begun
-"$program" stop -l live || echo "$?" >> out
+"$program" cancel -l live || echo "$?" >> out
 : > go
 hear
 ended=0
-"$program" stop -l live 2> told || ended=$?
+"$program" cancel -l live 2> told || ended=$?
 echo "$ended" >> out
 cat told >> out
 tell '-t 60000 change top'
@@ -563,7 +563,7 @@ echo 0 > status
 "$program" change -t 0 -w 1 top -b base -l live < /dev/null > out 2> err &
 called=$!
 until_begun
-"$program" stop -l live
+"$program" cancel -l live
 : > go
 wait "$called" || echo $? > status
 wants 'raised a b slow top\nok\n' ''

@@ -52,8 +52,8 @@ rm -f one
 
 # A program that can't be started is named, with the error.
 reports 2 'failed bad\nok\n' \
-    'undorc: bad: /nonexistent can'"'"'t be started: No such file or directory (os error 2)\nup bad: not started\n' \
-    change bad -b scripts -l one -r /nonexistent
+    'undorc: bad: ./scripts can'"'"'t be started: Permission denied (os error 13)\nup bad: not started\n' \
+    change bad -b scripts -l one -r ./scripts
 rm one
 
 # A longrun moves only where a program controls it: nothing has moved before, and -x and -n do without.
@@ -83,11 +83,11 @@ reports 0 'raised good\nok\n' '' change good -x none -b scripts
 reports 1 'refused NothingToUndo\n' '' undo -x none -b scripts
 
 # The environment names the programs, where the words name none; and its file is left alone with -x.
-UNDORC_LIVE=one UNDORC_RUNNER=/nonexistent UNDORC_CONTROLLER=true
+UNDORC_LIVE=one UNDORC_RUNNER=./scripts UNDORC_CONTROLLER=true
 export UNDORC_LIVE UNDORC_RUNNER UNDORC_CONTROLLER
 reports 0 'raised guard\nok\n' '' change guard -b scripts
 reports 2 'failed good\nok\n' \
-    'undorc: good: /nonexistent can'"'"'t be started: No such file or directory (os error 2)\nup good: not started\n' change good -b scripts
+    'undorc: good: ./scripts can'"'"'t be started: Permission denied (os error 13)\nup good: not started\n' change good -b scripts
 reports 0 'raised good\nok\n' '' change good -b scripts -r '/bin/sh -c'
 reports 2 'failed guard\nok\n' 'down guard: failed 1\n' change -d guard -b scripts -c false
 cp one one.before

@@ -11,11 +11,19 @@ starts() {
     rm -f live live.run
     "$program" change "$@" -b base -l live -x none > setup
 }
+# leaves_down NAME..: the next restart says that these are down
+downs=
+leaves_down() {
+    for name; do
+        downs="${downs}undorc: $name is down, and a restart leaves it down\n"
+    done
+}
 # goes STATUS OUTPUT JOURNAL WORDS..: a restart, and the journal behind it
 goes() {
     ends=$1 output=$2 entries=$3
     shift 3
-    expect "$ends" "$output" '' '' restart -b base -l live "$@"
+    expect "$ends" "$output" "$downs" '' restart -b base -l live "$@"
+    downs=
     expect 0 "$entries" '' '' journal -b base -l live
 }
 
@@ -29,9 +37,21 @@ goes 0 'lowered db net root web\nok\nraised db net root web\nok\n' 'at 1 of 2\n0
     root -x none
 # What is down stays down, also where it is named.
 starts net log
+leaves_down web
 goes 0 'lowered net\nok\nraised net\nok\n' 'at 1 of 2\n0 +log +net +root\nok\n' net web -x none
 starts net
+leaves_down log web
 goes 0 'ok\n' 'at 1 of 2\n0 +net +root\nok\n' log web -x none
+echo 0 > status
+"$program" restart -b base -l live web -x none < in 2>&1 | tail -n 1 > out
+: > err
+wants '  undorc start -b base -l live web brings it up\n' ''
+judge 'what brings up a service that a restart leaves down' 0
+leaves_down site
+goes 0 'lowered net\nok\nraised net\nok\n' 'at 1 of 2\n0 +net +root\nok\n' net site -x none
+rm live
+leaves_down web
+goes 0 'ok\n' 'at 0 of 1\nok\n' web -x none
 # A bundle's name stands for its services. There is no entry, so an undo takes back the command before it, and a redo does
 # not lower anything.
 starts web
@@ -44,6 +64,7 @@ starts web
 "$program" change -b base -l live -x none net > setup
 "$program" change -b base -l live -x none log > setup
 "$program" undo -b base -l live -x none > setup
+leaves_down web
 goes 0 'ok\n' 'at 1 of 3\n0 +net +root\n1 +log\nok\n' web -x none
 goes 0 'lowered net\nok\nraised net\nok\n' 'at 1 of 2\n0 +net +root\nok\n' net -x none
 

@@ -180,8 +180,8 @@ rm live.log
 rm -f live live.*
 "$program" change a -b base -l live -x none < /dev/null > /dev/null
 : > looking
-(while [ -e looking ]; do "$program" stop -l live > /dev/null 2>&1 || true; done) &
-(while [ -e looking ]; do "$program" stop -l live > /dev/null 2>&1 || true; done) &
+(while [ -e looking ]; do "$program" cancel -l live > /dev/null 2>&1 || true; done) &
+(while [ -e looking ]; do "$program" cancel -l live > /dev/null 2>&1 || true; done) &
 for turn in $(seq 200); do
     "$program" seal -b base -l live < /dev/null 2>&1 || echo "status $?"
 done | sort -u > out

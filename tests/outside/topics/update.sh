@@ -5,7 +5,10 @@ cd updates
 : > in
 
 # What is told where `-b` has another database than the session.
-unused='is not the database of this session: undorc update carries it over'
+# unused_base FILE: what is told of a file of -b that is not the database of the session
+unused_base() {
+    printf 'undorc: %s is not the database of this session: undorc update -b %s -l live -B %s carries it over' "$1" "$1" "$1"
+}
 # service NAME NEEDS..: a oneshot in the folder `tree` whose scripts note what they do in `log`
 service() {
     mkdir -p "tree/$1"
@@ -413,7 +416,7 @@ compiled new
 fresh
 update 2 'lowered c e\nfailed b\nok\n' '' -x down:b
 expect 0 'live a b d\nok\n' '' '' live -b old -l live
-expect 0 'live a b d\nok\n' "undorc: new $unused\n" '' live -b new -l live
+expect 0 'live a b d\nok\n' "$(unused_base new)\n" '' live -b new -l live
 expect 0 'at 2 of 3\n0 +a +b +c +d +e\n1 -c -e\nok\n' '' '' journal -b old -l live
 # The same command again takes back what stands, and so does an undo.
 cp live live.half
@@ -434,7 +437,7 @@ expect 0 'live a b c d e\nok\n' '' '' live -b old -l live
 fresh
 update 2 'lowered b c e\nok\nfailed b\nblocked c\nok\n' '' -x up:b
 kept ' a d' "$all"
-expect 0 'raised b c\nok\n' 'undorc: an update or a restart was not finished: undorc undo takes it back\n' '' change c -b new -x none -l live
+expect 0 'raised b c\nok\n' 'undorc: an update or a restart was not finished: undorc undo -b new -l live takes it back\n' '' change c -b new -x none -l live
 fresh
 update 2 'lowered b c e\nok\nraised b\nfailed c\nok\n' '' -x up:c
 kept ' a b d' 'at 1 of 2\n0 +b'
@@ -442,7 +445,7 @@ expect 0 'lowered b\nok\nraised b c e\nok\n' '' '' undo -b new -x none -l live
 # A restart takes none of it back.
 fresh
 update 2 'lowered b c e\nok\nraised b\nfailed c\nok\n' '' -x up:c
-expect 0 'lowered b\nok\nraised b\nok\n' 'undorc: an update or a restart was not finished: undorc undo takes it back\n' '' restart b -b new -x none -l live
+expect 0 'lowered b\nok\nraised b\nok\n' 'undorc: an update or a restart was not finished: undorc undo -b new -l live takes it back\n' '' restart b -b new -x none -l live
 expect 0 'lowered b\nok\nraised b c e\nok\n' '' '' undo -b new -x none -l live
 fresh
 update 2 'lowered b c e\nok\nraised b\nfailed c\nok\n' '' -x up:c,down:f,down:a,up:a

@@ -229,6 +229,16 @@ const CHANGE: [ToldArg; 18] = [
     DOWN, DOWN_ALL, PRUNE, ALL, NAMES,
 ];
 
+const START: [ToldArg; 15] = [
+    BASE, WORKERS, FAILING, RUNNER, CONTROLLER, USUAL, VERBOSE, LIVE, WAIT, LIMIT, DRY, QUIET,
+    PRUNE, ALL, NAMES,
+];
+
+const STOP: [ToldArg; 14] = [
+    BASE, WORKERS, FAILING, RUNNER, CONTROLLER, USUAL, VERBOSE, LIVE, WAIT, LIMIT, DRY, QUIET, ALL,
+    NAMES,
+];
+
 const STEP: [ToldArg; 12] = [
     BASE, WORKERS, FAILING, RUNNER, CONTROLLER, USUAL, VERBOSE, LIVE, WAIT, LIMIT, DRY, QUIET,
 ];
@@ -299,7 +309,7 @@ const DELETE: [ToldArg; 5] = [
     Words(1, "NAME", "The name of a bundle"),
 ];
 
-const STOP: [ToldArg; 1] = [Valued(
+const CANCEL: [ToldArg; 1] = [Valued(
     "live",
     'l',
     "FILE",
@@ -331,7 +341,7 @@ pub(crate) const ASKING: [ToldCommand; 4] = [
 ];
 
 /// The commands that go on with a session.
-pub(crate) const CHANGING: [ToldCommand; 4] = [
+pub(crate) const CHANGING: [ToldCommand; 6] = [
     ToldCommand {
         name: "session",
         about: "Reads a database, and then from standard input session lines; does what each says, and answers it",
@@ -341,6 +351,16 @@ pub(crate) const CHANGING: [ToldCommand; 4] = [
         name: "change",
         about: "Raises or lowers services with all that this needs, and answers",
         args: &CHANGE,
+    },
+    ToldCommand {
+        name: "start",
+        about: "Raises services with all that they need, as change -u",
+        args: &START,
+    },
+    ToldCommand {
+        name: "stop",
+        about: "Lowers services with all that need them, as change -d; cancel calls a command off",
+        args: &STOP,
     },
     ToldCommand {
         name: "undo",
@@ -384,7 +404,7 @@ pub(crate) const ALTERING: [ToldCommand; 5] = [
 ];
 
 /// The commands that show where a session stands, and the others.
-pub(crate) const SHOWING: [ToldCommand; 6] = [
+pub(crate) const SHOWING: [ToldCommand; 7] = [
     ToldCommand {
         name: "status",
         about: "Prints where each service stands, also while a command is under way",
@@ -393,6 +413,11 @@ pub(crate) const SHOWING: [ToldCommand; 6] = [
     ToldCommand {
         name: "live",
         about: "Prints what is up",
+        args: &SHOW,
+    },
+    ToldCommand {
+        name: "list",
+        about: "Prints what is up, as live",
         args: &SHOW,
     },
     ToldCommand {
@@ -406,9 +431,9 @@ pub(crate) const SHOWING: [ToldCommand; 6] = [
         args: &JOURNAL,
     },
     ToldCommand {
-        name: "stop",
+        name: "cancel",
         about: "Has the command that is under way begin nothing more; what it began ends",
-        args: &STOP,
+        args: &CANCEL,
     },
     ToldCommand {
         name: "version",

@@ -1,7 +1,10 @@
 //! Standard output, with a hint for people after an answer that refuses a request: which name may
 //! have been meant, or what to request instead. The answers are written unchanged.
 use crate::frontend::hints::{tell_hint, tell_near};
+use crate::frontend::typing::FileOptions;
+use log::info;
 use rc_names::NoMem;
+use rc_streams::messages::{HINT, Messages};
 use std::io::{self, Stdout, Write};
 
 /// More bytes than the refusal of a name has, since the longest name has 255.
@@ -14,6 +17,7 @@ pub struct Answers<'a> {
     rt: &'a HostRuntime,
     inner: Stdout,
     base: Option<&'a [u8]>,
+    files: FileOptions<'a>,
     answer: Vec<u8>,
     lacks: bool,
     unknown: Vec<String>,
@@ -21,12 +25,14 @@ pub struct Answers<'a> {
 
 impl<'a> Answers<'a> {
     /// Creates standard output with hints. If the database is known, hints on names follow each
-    /// answer. Otherwise `tell_all` prints them after all answers.
-    pub fn new(rt: &'a HostRuntime, base: Option<&'a [u8]>) -> Answers<'a> {
+    /// answer. Otherwise `tell_all` prints them after all answers. Commands in hints name the given
+    /// files.
+    pub fn new(rt: &'a HostRuntime, base: Option<&'a [u8]>, files: FileOptions<'a>) -> Answers<'a> {
         Answers {
             rt,
             inner: rt.stdout(),
             base,
+            files,
             answer: Vec::new(rt.alloc()),
             lacks: false,
             unknown: Vec::new(rt.alloc()),
@@ -36,7 +42,7 @@ impl<'a> Answers<'a> {
     /// Prints the hints that follow all answers, on names of this database.
     pub fn tell_all(&self, database: &[u8]) {
         for name in &self.unknown {
-            tell_near(self.rt, database, name.as_str());
+            tell_near(self.rt, self.files.base, database, name.as_str());
         }
     }
 
@@ -46,7 +52,7 @@ impl<'a> Answers<'a> {
             return Ok(());
         }
         if let Some(hint) = refusal_hint(&self.answer) {
-            tell_hint(self.rt, hint);
+            self.tell_refusal(&hint);
             return Ok(());
         }
         let Some(name) = refused_name(&self.answer) else {
@@ -61,10 +67,23 @@ impl<'a> Answers<'a> {
         }
         let base = self.base;
         match base {
-            Some(database) => tell_near(self.rt, database, name),
+            Some(database) => tell_near(self.rt, self.files.base, database, name),
             None => self.unknown.push(String::from_str(self.rt.alloc(), name)?)?,
         }
         Ok(())
+    }
+
+    /// Prints the hint for a refusal, with its command if both files that the command needs are
+    /// named.
+    fn tell_refusal(&self, hint: &RefusalHint) {
+        let RefusalHint { what, command } = *hint;
+        match command {
+            Some((name, shows)) if self.files.are_both() => {
+                let files = self.files;
+                info!(Messages(self.rt); target: HINT, "{what}; undorc {name}{files} {shows}");
+            }
+            _ => tell_hint(self.rt, what),
+        }
     }
 }
 
@@ -91,26 +110,56 @@ impl Write for Answers<'_> {
     }
 }
 
+/// What helps after an answer that refuses a request: a sentence, and a command by its name and by
+/// what it does.
+#[derive(Clone, Copy)]
+struct RefusalHint {
+    what: &'static str,
+    command: Option<(&'static str, &'static str)>,
+}
+
+/// Creates a hint without a command.
+fn plain(what: &'static str) -> Option<RefusalHint> {
+    Some(RefusalHint {
+        what,
+        command: None,
+    })
+}
+
+/// Creates a hint with a command.
+fn with(what: &'static str, name: &'static str, shows: &'static str) -> Option<RefusalHint> {
+    let command = Some((name, shows));
+    Some(RefusalHint { what, command })
+}
+
 /// Returns the hint for an answer that refuses a request, if it does not depend on a database.
-fn refusal_hint(answer: &[u8]) -> Option<&'static str> {
+fn refusal_hint(answer: &[u8]) -> Option<RefusalHint> {
     let text = std::str::from_utf8(answer).ok()?;
     if text.starts_with("refused IsAtomic ") {
-        return Some("a service has this name, and only bundles are added and deleted");
+        return plain("a service has this name, and only bundles are added and deleted");
     }
     if text.starts_with("refused Missing ") {
-        return Some("no bundle has this name; undorc bundles prints them");
+        return with("no bundle has this name", "bundles", "prints them");
     }
     if text.starts_with("refused Exists ") {
-        return Some("a bundle has this name; -f replaces it");
+        return plain("a bundle has this name; -f replaces it");
     }
     match text {
         "refused NothingToUndo\n" => {
-            Some("no change is left to undo; undorc journal prints those that are kept")
+            with(
+                "no change is left to undo",
+                "journal",
+                "prints those that are kept",
+            )
         }
         "refused NothingToRedo\n" => {
-            Some("no change is undone; undorc journal prints where the session stands")
+            with(
+                "no change is undone",
+                "journal",
+                "prints where the session stands",
+            )
         }
-        "refused PruneNeedsUp\n" => Some("-p goes with neither -d nor -D"),
+        "refused PruneNeedsUp\n" => plain("-p goes with neither -d nor -D"),
         _ => None,
     }
 }

@@ -1,4 +1,5 @@
 //! Hints for a text that is no database or no session, and for a name that is not in a database.
+use crate::frontend::typing::ForShell;
 use rc_compile::command::diagnostics::{
     Hint, Said, cut_at, first_word, is_one_edit, line_at, text_of,
 };
@@ -29,7 +30,6 @@ const SESSION: Form = Form {
 pub fn database_hint(alloc: Global, path: &str, bytes: &[u8], word: &str, rest: &str) -> Hint {
     let what = match word {
         "Bad" => return bad_line(alloc, path, bytes, rest, &DATABASE),
-        "Unknown" => return near_hint(alloc, bytes, rest),
         "Version" => ":1: this program reads 'undorc-db 1'",
         "NotSorted" => ": names do not ascend in byte order",
         "Dangling" => ": a line names what it may not",
@@ -114,20 +114,14 @@ fn not_due(bytes: &[u8], offset: usize) -> &'static str {
 }
 
 /// Returns the hint for an unknown name: the name of a database that may have been meant, or the
-/// command that prints all of them.
-pub fn near_hint(alloc: Global, database: &[u8], name: &str) -> Hint {
+/// command that prints all names of the file of the database.
+pub fn near_hint(alloc: Global, file: Option<&str>, database: &[u8], name: &str) -> Hint {
     let mut rest = database;
     for _ in 0..database.len() {
         let (line, behind) = next_line(rest);
         rest = behind;
         if line == "end" {
-            let mut said = Said::new(alloc);
-            said.add_row(
-                "nothing is named ",
-                name,
-                "; undorc db list all prints the names",
-            );
-            return said.hint();
+            return no_name(alloc, file, name);
         }
         if let Some(("service" | "bundle", words)) = line.split_once(' ') {
             let near = first_word(words);
@@ -140,6 +134,23 @@ pub fn near_hint(alloc: Global, database: &[u8], name: &str) -> Hint {
         }
     }
     Ok(None)
+}
+
+/// Returns the hint that nothing has a name in the database of a file or of standard input.
+fn no_name(alloc: Global, file: Option<&str>, name: &str) -> Hint {
+    let Some(path) = file else {
+        return hint_of(
+            alloc,
+            "nothing is named ",
+            name,
+            " in the database on standard input",
+        );
+    };
+    let path = ForShell(path);
+    let command = format!(in alloc; "; undorc db -b {path} list all prints the names")?;
+    let hint = hint_of(alloc, "nothing is named ", name, command.as_str());
+    drop(command);
+    hint
 }
 
 /// Returns the bytes after the database at the beginning of a text.

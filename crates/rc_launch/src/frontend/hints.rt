@@ -104,6 +104,9 @@ fn hint_on(rt: &HostRuntime, seen: &Seen<'_>, word: &str, rest: &str) -> Hint {
         (None, None) => return Err(AllocError),
     };
     if word != "NotClosed" {
+        if word == "Unknown" {
+            return near_hint(rt.alloc(), seen.file, database, rest);
+        }
         let path = seen.file.unwrap_or("standard input");
         return database_hint(rt.alloc(), path, database, word, rest);
     }
@@ -182,9 +185,10 @@ fn behind_live(
     }
 }
 
-/// Prints the name of a database that may have been meant by an unknown name.
-pub fn tell_near(rt: &HostRuntime, database: &[u8], name: &str) {
-    tell_found(rt, HINT, near_hint(rt.alloc(), database, name));
+/// Prints the name of a database that may have been meant by an unknown name. The database stands
+/// in a file or on standard input.
+pub fn tell_near(rt: &HostRuntime, file: Option<&str>, database: &[u8], name: &str) {
+    tell_found(rt, HINT, near_hint(rt.alloc(), file, database, name));
 }
 
 /// Returns the hint for a fault that needs no second look.

@@ -7,7 +7,7 @@ use Rattle.rc_args.proofs.once_words.change_in.Goals as goal
 
 pub returns-in_default-clause-wrong : goal.returns-in_default-clause-wrong
 returns-in_default-clause-wrong c =
-    λ _. limit_none (codes "change") c.args.matches.now _ refl refl refl refl refl
+    λ _. limit_none (codes "change") c.args.flag.now c.args.matches.now _ refl refl refl refl refl
     c.get_str.ensures c.in_default.ensures.none
 
 pub returns-then-is_on-clause-asked : goal.returns-then-is_on-clause-asked
@@ -16,7 +16,8 @@ returns-then-is_on-clause-asked c = (
   (
     sym c.is_on.ensures ∙ c.if-is_on.true,
     (
-      unlimited (rows_of (found_of c.args.matches.now)) (ask_of c.in_ok-request.request)
+      unlimited c.args.flag.now (rows_of (found_of c.args.matches.now))
+          (ask_of c.in_ok-request.request)
           c.in_ok-request.ensures.asked,
       limit_found c.args.matches.now _ c.in-Some.limit c.get_str.ensures c.in-Some.ensures.some,
     ),
@@ -30,7 +31,8 @@ returns-clause-asked c = (
     sym c.is_on.ensures ∙ c.if-is_on.false,
     refl,
     (
-      unlimited (rows_of (found_of c.args.matches.now)) (ask_of c.in_ok-request.request)
+      unlimited c.args.flag.now (rows_of (found_of c.args.matches.now))
+          (ask_of c.in_ok-request.request)
           c.in_ok-request.ensures.asked,
       limit_found c.args.matches.now _ c.in-Some.limit c.get_str.ensures c.in-Some.ensures.some,
     ),

@@ -4,11 +4,11 @@ use Rattle.rc_args.proofs.once_words.redo_in.Goals as goal
 
 pub returns-in_default-clause-wrong : goal.returns-in_default-clause-wrong
 returns-in_default-clause-wrong c =
-    λ _. limit_none (codes "redo") c.args.matches.now _ refl refl refl refl refl
+    λ _ flag. limit_none (codes "redo") flag c.args.matches.now _ refl refl refl refl refl
     c.get_str.ensures c.in_default.ensures.none
 
 pub returns-then-is_on-clause-asked : goal.returns-then-is_on-clause-asked
-returns-then-is_on-clause-asked c = (
+returns-then-is_on-clause-asked c = λ flag. (
   refl,
   (
     sym c.is_on.ensures ∙ c.if-is_on.true,
@@ -21,7 +21,7 @@ returns-then-is_on-clause-asked c = (
 )
 
 pub returns-clause-asked : goal.returns-clause-asked
-returns-clause-asked c = (
+returns-clause-asked c = λ flag. (
   refl,
   (
     sym c.is_on.ensures ∙ c.if-is_on.false,

@@ -1,4 +1,4 @@
-//! `stop`: calls off the command that goes on with a session.
+//! `cancel`: calls off the command that goes on with a session.
 
 use log::info;
 use rc_launch::frontend::tell_file;
@@ -8,7 +8,7 @@ use rc_streams::stop_file;
 
 /// Calls off the command that goes on with the session in this file, and returns the status. It is
 /// 0 if there is such a command, which then begins no more transitions, and 1 if none is under way.
-pub fn stop(rt: &HostRuntime, path: &str) -> u8 {
+pub fn cancel(rt: &HostRuntime, path: &str) -> u8 {
     match stop_file::call_off(rt, path) {
         Ok(true) => DONE,
         Ok(false) => {
