@@ -1,6 +1,6 @@
 -- How a session that is launched ends.
-use Rattle.std.proofs.Common.{◌≡◌, ◌∙◌, ◌⊎◌, ℕ, Bool, List, [], Option, None, Some, Result, Ok, Err}
-use Rattle.std.proofs.Common.{inl, inr, refl, sym, subst}
+use Rattle.std.proofs.Common.{◌≡◌, ◌≢◌, ◌⊎◌, ℕ, Bool, List, [], Option, None, Some, Result, Ok, Err}
+use Rattle.std.proofs.Common.{IfErr, inl, inr, refl, sym, subst}
 use Rattle.rc_graph.specs.declared.Way.{Way}
 use Rattle.rc_model.specs.Database.{Database}
 use Rattle.rc_model.specs.Line.{Line}
@@ -11,7 +11,8 @@ use Rattle.rc_runner.specs.Moments.{IsMomentOf}
 use Rattle.rc_runner.specs.Shell.{MayAnswer, Scripts}
 use Rattle.rc_runner.specs.declared.session_gate.SessionGate.{SessionGate}
 use Rattle.rc_runner.specs.declared.session_gate.SessionGate.TheVariants as made
-use Rattle.rc_streams.specs.Input.{AppendsFront, IsCause, fault_line}
+use Rattle.rc_streams.specs.Exchange.{Exchange}
+use Rattle.rc_streams.specs.Input.{AppendsFront, ConsumesAtMost, IsCause, fault_line}
 use Rattle.rc_streams.specs.declared.input.Failure.{Failure}
 use Rattle.rc_streams.specs.declared.input.Failure.TheVariants as failure
 use Rattle.rc_serve.specs.declared.ending.Ending.{Ending}
@@ -28,27 +29,28 @@ use Rattle.rc_dbtext.specs.Base.{Spells}
 use Rattle.rc_dbtext.specs.Opening.{Reads}
 use Rattle.rc_cli.specs.Filing.{BeginsWith, CannotKeep, FailsToBegin, file_named}
 use Rattle.rc_cli.specs.Gating.{IsGateFor, IsGateless}
-use Rattle.rc_cli.specs.Services.{ComesFor, IsDoneFor, Lets, OfLines, RunsGated, Served}
+use Rattle.rc_cli.specs.Services.{ComesFor, IsDoneFor, Lets, RunsGated, Served}
 use Rattle.rc_cli.specs.Services.{done_by}
 use Rattle.rc_cli.specs.Serving.{IsOfFile, session_on}
-use Rattle.rc_cli.specs.Session.{Asked, Dealing, Opens, Runs, RunsOn, filing_by}
-use Rattle.rc_cli.specs.SessionFaults.{AreAllFound, ComesBy, ComesOn, IsEndTold, IsUnbegun}
-use Rattle.rc_cli.specs.SessionFaults.{IsTold, IsUnready, IsUnserved, IsUnspelled}
-use Rattle.rc_cli.specs.SessionFaults.{reading_fault, serve_word}
+use Rattle.rc_cli.specs.Session.{Asked, Dealing, Opens, RunsOn, filing_by}
+use Rattle.rc_cli.specs.SessionFaults.{AreAllFound, ComesBy, IsControlled, IsEndTold, IsUnbegun}
+use Rattle.rc_cli.specs.SessionFaults.{IsTold, IsUnready, IsUnserved, IsUnspelled, RunsControlled}
+use Rattle.rc_cli.specs.SessionFaults.{reading_fault, serve_word, session_end}
 use Rattle.rc_cli.specs.declared.sessions.keeping.LiveFile.{LiveFile}
 use Rattle.rc_cli.specs.declared.sessions.service.Service.{Service}
 use Rattle.rc_cli.specs.declared.sessions.session_fault.SessionFault.{SessionFault}
 use Rattle.rc_cli.specs.declared.sessions.session_fault.SessionFault.TheVariants.{OfText, Unknown}
 use Rattle.rc_cli.specs.declared.sessions.session_fault.SessionFault.TheVariants.{OfLive, Failed}
 use Rattle.rc_cli.specs.declared.sessions.session_fault.SessionFault.TheVariants.{NoController}
-use Rattle.rc_cli.proofs.SessionLemmas.{begin_fault, clock_timeless, fault_wider, table_exact}
+use Rattle.rc_cli.proofs.SessionLemmas.{begin_fault, clock_timeless, table_exact}
 
 -- a failed read is told as that
-pub told_read : (ended : Result Ending SessionFault) (status : ℕ) (before after : Option (List ℕ))
-    → ended ≡ Err (Failed Read) → IsEndTold ended status before after
+pub told_read : (served : Result Ending ServeFault) (status : ℕ) (before after : Option (List ℕ))
+    → served ≡ Err Read → IsEndTold (session_end served) status before after
     → (status ≡ 111) × AppendsFront before after (fault_line (serve_word Read))
-told_read ended status before after is told =
-    by (subst (λ (r : Result Ending SessionFault). IsEndTold r status before after) is told)
+told_read served status before after is told =
+    by (subst (λ (r : Result Ending ServeFault). IsEndTold (session_end r) status before after) is
+    told)
   where
     by : IsTold (Failed Read) status before after
         → (status ≡ 111) × AppendsFront before after (fault_line (serve_word Read))
@@ -131,68 +133,73 @@ runs_past Comes asked d deal gate old new is (start, begins, from) served =
           from (served fails lets);
     })
 
--- why there is no database of a text ends it
-module _ (service : Service) (asked : Asked) (deal : Dealing) (base : Option (List ℕ))
-    (reader writer keeper : Type 0) (same : asked.base ≡ base)
-    (none : deal.io.gained ≡ deal.io.written) (left : deal.is ≡ deal.was) where
-  pub unspelled_ends : (fault : SessionFault) (input : List ℕ)
-      → Reads base deal.io.input deal.io.left input → IsUnspelled base input fault
-      → ComesBy (Err fault) service asked deal reader writer keeper
-  unspelled_ends (OfText fault) input reads is = (
-    (
-      input,
-      subst (λ (b : Option (List ℕ)). Reads b deal.io.input deal.io.left input) (sym same) reads,
-      subst (λ (b : Option (List ℕ)). IsUnspelled b input (OfText fault)) (sym same) is,
-    ),
-    none,
-    left,
-  )
-  unspelled_ends (Unknown word) input reads is = absurd is
-  unspelled_ends (OfLive fault) input reads is = absurd is
-  unspelled_ends (NoController name) input reads is = absurd is
-  unspelled_ends (Failed fault) input reads is =
-      subst (λ (f : ServeFault). ComesBy (Err (Failed f)) service asked deal reader writer keeper)
-      (sym is) (tt, inl (tt, none, left))
-
--- and so does an input that was not read whole
-pub reading_ends : (fault : ServeFault) (why : Failure) (service : Service) (asked : Asked)
-    (deal : Dealing) (failed more writer keeper : Type 0) → asked.base ≡ None
-    → deal.io.gained ≡ deal.io.written → deal.is ≡ deal.was → fault ≡ reading_fault why
-    → IsCause deal.io.input failed ⊥ why
-    → ComesBy (Err (Failed fault)) service asked deal (failed ⊎ more) writer keeper
-reading_ends fault why service asked deal failed more writer keeper base none left is cause =
-    subst (λ (f : ServeFault). ComesBy (Err (Failed f)) service asked deal (failed ⊎ more) writer
-    keeper)
+-- why the input was not read whole, where there is no base
+pub reading_fails : (fault : ServeFault) (why : Failure) (base remaining : Option (List ℕ))
+    (failed : Type 0) → base ≡ None → fault ≡ reading_fault why → IsCause remaining failed ⊥ why
+    → IsServeFault failed ⊥ ⊥ fault × IsUnserved fault base remaining
+reading_fails fault why base remaining failed none is cause =
+    subst (λ (f : ServeFault). IsServeFault failed ⊥ ⊥ f × IsUnserved f base remaining)
     (sym is) (by why cause)
   where
-    by : (why : Failure) → IsCause deal.io.input failed ⊥ why
-        → ComesBy (Err (Failed (reading_fault why))) service asked deal
-        (failed ⊎ more) writer keeper
-    by failure.TooLong cause = (tt, inl ((base, cause), none, left))
-    by failure.Memory cause = (tt, inl (tt, none, left))
-    by failure.Read cause = (inl cause, inl (base, none, left))
+    by : (why : Failure) → IsCause remaining failed ⊥ why
+        → IsServeFault failed ⊥ ⊥ (reading_fault why)
+        × IsUnserved (reading_fault why) base remaining
+    by failure.TooLong cause = (tt, (none, cause))
+    by failure.Memory cause = (tt, tt)
+    by failure.Read cause = (cause, none)
     by failure.Write cause = absurd cause
 
 -- and a read that has failed is told as that
 pub unread_told : {A B : Type 0} (result : Result A Failure) (why : Failure) (fault : ServeFault)
     (before : Type 0) → before ⊎ (result ≡ Err failure.Read) → (before → ⊥) → result ≡ Err why
-    → fault ≡ reading_fault why
-    → ◌≡◌ {A = Result B SessionFault} (Err (Failed fault)) (Err (Failed Read))
+    → fault ≡ reading_fault why → ◌≡◌ {A = Result B ServeFault} (Err fault) (Err Read)
 unread_told result why fault before (inl failed) well is of = absurd (well failed)
 unread_told {A} {B} result why fault before (inr read) well is of =
     let same : why ≡ failure.Read = cc in
     let told : fault ≡ Read = cc in
-    subst (λ (f : ServeFault). ◌≡◌ {A = Result B SessionFault} (Err (Failed f)) (Err (Failed Read)))
-    (sym told) refl
+    subst (λ (f : ServeFault). ◌≡◌ {A = Result B ServeFault} (Err f) (Err Read)) (sym told) refl
 
--- where a session on a database was not begun nothing was read of its input
-stands_in : (base remaining after input left : Option (List ℕ)) (d : Database)
-    → Opens base remaining after d input left → left ≡ input
-    → (all : List ℕ) × (rest : List ℕ) × Reads base remaining after all × Spells base all d rest
-stands_in (Some base) remaining after input left d opened alone =
-    ([], [], (refl, sym opened.2 ∙ alone ∙ opened.1), opened.0)
-stands_in None remaining after input left d opened alone =
-    (opened.0, opened.1, opened.2, opened.3)
+-- a fault is the same, whatever would have been
+pub err_as : {A B : Type 0} (result : Result A ServeFault) (fault other : ServeFault)
+    → result ≡ Err fault → result ≡ Err other
+    → ◌≡◌ {A = Result B ServeFault} (Err fault) (Err other)
+err_as {A} {B} result fault other is told =
+    let same : fault ≡ other = cc in
+    subst (λ (f : ServeFault). ◌≡◌ {A = Result B ServeFault} (Err f) (Err other)) (sym same) refl
+
+-- a session has an input of its own: of which nothing was read after the database
+pub opens_alone : (base remaining after : Option (List ℕ)) (d : Database) (all rest : List ℕ)
+    → Reads base remaining after all → Spells base all d rest
+    → (input : Option (List ℕ)) × Opens base remaining after d input input
+opens_alone (Some b) remaining after d all rest reads spelled =
+    (remaining, ((spelled.0, spelled.1, spelled.2, refl), refl, sym reads.1))
+opens_alone None remaining after d all rest reads spelled =
+    (Some rest, (all, rest, reads, spelled, refl))
+
+-- which is what the reader has where there is a base
+pub opens_based : (base remaining after left : Option (List ℕ)) (d : Database)
+    (all rest : List ℕ) → base ≢ None → Reads base remaining after all → Spells base all d rest
+    → Opens base remaining left d after left
+opens_based (Some b) remaining after left d all rest based reads spelled =
+    ((spelled.0, spelled.1, spelled.2, refl), reads.1, refl)
+opens_based None remaining after left d all rest based reads spelled = absurd (based refl)
+
+-- of which no more is taken than of its own input
+pub taken_based : (base remaining after left : Option (List ℕ)) (all : List ℕ) (limit : ℕ)
+    → base ≢ None → Reads base remaining after all → ConsumesAtMost after left limit
+    → ConsumesAtMost remaining left limit
+taken_based (Some b) remaining after left all limit based reads taken =
+    subst (λ (r : Option (List ℕ)). ConsumesAtMost r left limit) reads.1 taken
+taken_based None remaining after left all limit based reads taken = absurd (based refl)
+
+-- and what is after the database where there is none
+pub opens_rest : (base remaining after left : Option (List ℕ)) (d : Database)
+    (all rest : List ℕ) → base ≡ None → Reads base remaining after all → Spells base all d rest
+    → Opens base remaining after d (Some rest) left
+opens_rest (Some b) remaining after left d all rest none reads spelled =
+    let bad : Some b ≡ None = none in cc
+opens_rest None remaining after left d all rest none reads spelled =
+    (all, rest, reads, spelled, refl)
 
 -- a session that is not begun is not served
 unserved : (fault : ServeFault) (base remaining : Option (List ℕ)) → IsOfFile fault
@@ -217,67 +224,78 @@ unready_fault ask file fault reader writer failed (inl is) =
 unready_fault ask file fault reader writer failed (inr is) =
     begin_fault ask file fault reader writer failed is
 
--- a session that was served on a database is one of its text
-module _ (service : Service) (asked : Asked) (deal inner : Dealing) (base : Option (List ℕ))
-    (d : Database) (same : asked.base ≡ base)
-    (opened : Opens base deal.io.input deal.io.left d inner.io.input inner.io.left)
-    (through : inner ≡ record deal {
-      io = record {
-        input = inner.io.input;
-        left = inner.io.left;
-        written = deal.io.written;
-        gained = deal.io.gained;
-      };
-    }) where
-  runs_in : (Comes : Served) → RunsOn Comes asked d inner → Runs Comes asked deal
-  runs_in Comes run = record {
-    database = d;
-    input = inner.io.input;
-    left = inner.io.left;
-    opened = subst (λ (b : Option (List ℕ)).
-        Opens b deal.io.input deal.io.left d inner.io.input inner.io.left) (sym same) opened;
-    run = subst (RunsOn Comes asked d) through run;
-  }
-
-  pub comes_in : (result : Result Ending SessionFault) (reader more writer failed : Type 0)
-      → (OfLines service reader → more)
-      → ComesOn result service asked d inner (OfLines service reader) writer
+-- why there is no database, or no session on it, ends it where nothing was written
+module _ (service : Service) (asked : Asked) (deal : Dealing) (reader writer failed : Type 0)
+    (none : deal.io.gained ≡ deal.io.written) (left : deal.is ≡ deal.was) (input : List ℕ)
+    (reads : Reads asked.base deal.io.input deal.io.left input) where
+  pub unspelled_ends : (fault : SessionFault) → IsUnspelled asked.base input fault
+      → ComesBy (Err fault) service asked deal reader writer
       (CannotKeep asked.ask asked.file failed)
-      → ComesBy result service asked deal more writer (CannotKeep asked.ask asked.file failed)
-  unfolding runs_in
-  comes_in (Ok ending) reader more writer failed so run =
-      (runs_in (ComesFor service (Ok ending)) run.1, run.0)
-  comes_in (Err fault) reader more writer failed so (inl (un, alone)) = by fault un
-    where
-      none : deal.io.gained ≡ deal.io.written
-      none = subst (λ (n : Dealing). n.io.gained ≡ n.io.written) through alone.1
+  unspelled_ends (OfText fault) is = ((input, reads, is), none, left)
+  unspelled_ends (Unknown word) is = absurd is
+  unspelled_ends (OfLive fault) is = absurd is
+  unspelled_ends (NoController name) is = absurd is
+  unspelled_ends (Failed fault) is =
+      subst (λ (f : ServeFault). ComesBy (Err (Failed f)) service asked deal reader writer
+      (CannotKeep asked.ask asked.file failed)) (sym is) (tt, inl (tt, none, left))
 
-      left : deal.is ≡ deal.was
-      left = subst (λ (n : Dealing). n.is ≡ n.was) through alone.2
+  pub unready_ends : (fault : SessionFault) (d : Database) (rest : List ℕ)
+      → Spells asked.base input d rest → IsUnready service asked d fault
+      → ComesBy (Err fault) service asked deal reader writer
+      (CannotKeep asked.ask asked.file failed)
+  unready_ends (OfText fault) d rest spelled un = absurd un
+  unready_ends (Unknown word) d rest spelled un =
+      ((input, reads, (d, rest, spelled, un)), none, left)
+  unready_ends (OfLive fault) d rest spelled un =
+      ((input, reads, (d, rest, spelled, un.0, un.1)), none, left)
+  unready_ends (NoController name) d rest spelled un =
+      ((input, reads, (d, rest, spelled, un.0, un.1)), none, left)
+  unready_ends (Failed fault) d rest spelled un =
+      let of = unready_fault asked.ask asked.file fault reader writer failed un in
+      (of.1, inl (unserved fault asked.base deal.io.input of.0, none, left))
 
-      stands : (input : List ℕ) × (rest : List ℕ)
-          × Reads asked.base deal.io.input deal.io.left input × Spells asked.base input d rest
-      stands = subst (λ (b : Option (List ℕ)). (input : List ℕ) × (rest : List ℕ)
-          × Reads b deal.io.input deal.io.left input × Spells b input d rest) (sym same)
-          (stands_in base deal.io.input deal.io.left inner.io.input inner.io.left d opened alone.0)
+-- what went through the devices of a session whose own input is this
+abbrev own_io : Dealing → (input left : Option (List ℕ)) → Exchange
+own_io deal input left = record {
+  input = input;
+  left = left;
+  written = deal.io.written;
+  gained = deal.io.gained;
+}
 
-      by : (fault : SessionFault) → IsUnready service asked d fault
-          → ComesBy (Err fault) service asked deal more writer
-          (CannotKeep asked.ask asked.file failed)
-      by (OfText fault) un = absurd un
-      by (Unknown word) un =
-          ((stands.0, stands.2, (d, stands.1, stands.3, un)), none, left)
-      by (OfLive fault) un =
-          ((stands.0, stands.2, (d, stands.1, stands.3, un.0, un.1)), none, left)
-      by (NoController name) un =
-          ((stands.0, stands.2, (d, stands.1, stands.3, un.0, un.1)), none, left)
-      by (Failed fault) un =
-          let of = unready_fault asked.ask asked.file fault more writer failed un in
-          (of.1, inl (unserved fault asked.base deal.io.input of.0, none, left))
-  comes_in (Err fault) reader more writer failed so (inr (why, is, wrong, controlled, run)) =
-      subst (λ (f : SessionFault).
-      ComesBy (Err f) service asked deal more writer (CannotKeep asked.ask asked.file failed))
-      (sym is) (
-        fault_wider why _ _ _ _ _ _ so (λ w. w) (λ k. k) wrong,
-        inr (runs_in (ComesFor service (Err why)) run, controlled),
-      )
+-- a session that was begun and served is one of its text
+module _ {R L : Type 0} (service : Service) (asked : Asked) (deal : Dealing)
+    (input left : Option (List ℕ)) (d : Database) (gate : SessionGate R L) (old new : Holding)
+    (opened : Opens asked.base deal.io.input deal.io.left d input left)
+    (controlled : IsControlled service asked d) (made : IsGateFor d asked.ask.making gate)
+    (begun : (start : Line) × BeginsWith d (filing_by asked deal) start
+    × (old ≡ session_on d start)) where
+  -- it comes to this, by the gate's answers or as these transitions fail
+  abbrev IsServed : Result Ending ServeFault → Type 0
+  IsServed result = (fails : Option (ℕ → Way → Bool))
+      → Lets (gate_answers gate) (gate_gives gate) input fails
+      → ComesFor service result asked.ask.live deal.was deal.is
+      (done_by asked.ask.workers (gate_answers gate) (gate_gives gate) fails)
+      (IsDoneAs asked.ask.workers (gate_answers gate) (gate_gives gate))
+      (own_io deal input left) old new
+
+  runs_served : (result : Result Ending ServeFault) → IsServed result
+      → RunsControlled service result asked deal
+  runs_served result served = (
+    record {
+      database = d;
+      input = input;
+      left = left;
+      opened = opened;
+      run = runs_past (ComesFor service result) asked d
+          (record deal { io = own_io deal input left }) gate old new made begun served;
+    },
+    controlled,
+  )
+
+  pub served_ends : (result : Result Ending ServeFault) (reader writer keeper : Type 0)
+      → IsServed result → IfErr result (IsServeFault reader writer keeper)
+      → ComesBy (session_end result) service asked deal reader writer keeper
+  served_ends (Ok ending) reader writer keeper served wrong = runs_served (Ok ending) served
+  served_ends (Err fault) reader writer keeper served wrong =
+      (wrong, inr (runs_served (Err fault) served))

@@ -25,7 +25,6 @@ use Rattle.rc_cli.specs.Filing.{HoldsBy}
 use Rattle.rc_cli.specs.Services.{ComesFor, Lets, done_by}
 use Rattle.rc_cli.specs.Serving.{IsOfFile, KeepsAt, as_done}
 use Rattle.rc_cli.specs.Storing.{HoldsText}
-use Rattle.rc_cli.specs.declared.sessions.service.Service.{Service}
 use Rattle.rc_cli.specs.declared.sessions.service.Service.TheVariants.{Lines}
 
 -- a store that holds a text is that of a file that is named, and one that was left alone of none
@@ -109,8 +108,7 @@ module _ {A : Type 0} (workers : ℕ) (Answers : ℕ → Way → Outcome → Typ
   )
 
   pub lines_come : (result : Result A ServeFault) (ended : Result Ending ServeFault)
-      (service : Service) (fails : Option (ℕ → Way → Bool)) → service ≡ Lines
-      → ended ≡ as_done result
+      (fails : Option (ℕ → Way → Bool)) → ended ≡ as_done result
       → OnOk result (ServesAll (IsDoneBy workers Answers Gives) io old new)
       → ((f : ℕ → Way → Bool) → FailsExactly Answers f → IsTimeless Gives io.input
       → OnOk result (ServesFailing f io old new))
@@ -120,12 +118,10 @@ module _ {A : Type 0} (workers : ℕ) (Answers : ℕ → Way → Outcome → Typ
       → IfErr result (λ fault. ServesFrontFailingKept fault May was next f io old new))
       → OnOk result (IsKeptUp was next old.database old.line new.line)
       → Lets Answers Gives io.input fails
-      → ComesFor service ended path held is (done_by workers Answers Gives fails) As io old new
-  lines_come result ended service fails lines told all text begun front up lets =
-      subst (λ (s : Service). ComesFor s ended path held is (done_by workers Answers Gives fails) As
-      io old new) (sym lines)
-      (subst (λ (r : Result Ending ServeFault). ComesFor Lines r path held is
-      (done_by workers Answers Gives fails) As io old new) (sym told) (by fails lets))
+      → ComesFor Lines ended path held is (done_by workers Answers Gives fails) As io old new
+  lines_come result ended fails told all text begun front up lets =
+      subst (λ (r : Result Ending ServeFault). ComesFor Lines r path held is
+      (done_by workers Answers Gives fails) As io old new) (sym told) (by fails lets)
     where
       by : (fails : Option (ℕ → Way → Bool)) → Lets Answers Gives io.input fails
           → ComesFor Lines (as_done result) path held is (done_by workers Answers Gives fails) As io

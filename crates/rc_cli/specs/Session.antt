@@ -3,14 +3,13 @@ use Rattle.std.specs.Prelude.{◌≡◌, ℕ, List, [], Option, None, Some}
 use Rattle.rc_model.specs.Database.{Database}
 use Rattle.rc_streams.specs.Exchange.{Exchange, exchanged}
 use Rattle.rc_streams.specs.declared.noted.Noted.{Noted}
-use Rattle.rc_dbtext.specs.Base.{Spells, bytes_of}
+use Rattle.rc_dbtext.specs.Base.{Spells}
 use Rattle.rc_dbtext.specs.Opening.{Reads}
-use Rattle.rc_args.specs.SessionAsked.{SessionAsk, session_ask_of}
+use Rattle.rc_args.specs.SessionAsked.{SessionAsk}
 use Rattle.rc_cli.specs.Filing.{Filing, filing_of}
 use Rattle.rc_cli.specs.Services.{RunsFor, Served}
 use Rattle.rc_cli.specs.Storing.{store_of}
 use Rattle.rc_cli.specs.declared.sessions.keeping.LiveFile.{LiveFile}
-use Rattle.rc_cli.specs.declared.sessions.service.Launch.{Launch}
 use Rattle.rc_cli.specs.declared.sessions.service.Outputs.{Outputs}
 
 -- what is asked of a session, the text of its database, where that is one of its own, and what
@@ -22,10 +21,6 @@ pub record Asked : Type 0 where
 
 abbrev pub asked_with : SessionAsk → (base : Option (List ℕ)) → LiveFile → Asked
 asked_with ask base file = record { ask = ask; base = base; file = file }
-
-abbrev pub asked_of : Launch → Asked
-asked_of launch =
-    asked_with (session_ask_of launch.request.now) (bytes_of launch.base) launch.live
 
 -- what went through a reader and a writer, and what the store of a session held and holds
 pub record Dealing : Type 0 where
@@ -46,11 +41,6 @@ dealt remaining contents holds reader left old new = record {
 -- where a session begins, and what its store held and holds
 abbrev pub filing_by : Asked → Dealing → Filing
 filing_by asked deal = filing_of asked.ask asked.file deal.was deal.is
-
--- nothing was read, nothing was written, and the store was left alone
-abbrev pub IsUntouched : Dealing → Type 0
-IsUntouched deal = (deal.io.left ≡ deal.io.input) × (deal.io.gained ≡ deal.io.written)
-    × (deal.is ≡ deal.was)
 
 -- a session on a database was served
 abbrev pub RunsOn : Served → Asked → Database → Dealing → Type 0

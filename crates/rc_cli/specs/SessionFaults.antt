@@ -28,7 +28,7 @@ use Rattle.rc_cli.specs.Filing.{FailsToBegin, IsFileRefused, file_named}
 use Rattle.rc_cli.specs.Controlled.{IsUncontrolled}
 use Rattle.rc_cli.specs.Finding.{AreFound, IsFirstUnknown}
 use Rattle.rc_cli.specs.Services.{ComesFor}
-use Rattle.rc_cli.specs.Session.{Asked, Dealing, IsUntouched, Runs, RunsOn}
+use Rattle.rc_cli.specs.Session.{Asked, Dealing, Runs}
 use Rattle.rc_cli.specs.declared.sessions.failing.GateFault.{GateFault}
 use Rattle.rc_cli.specs.declared.sessions.failing.GateFault.TheVariants as gate
 use Rattle.rc_cli.specs.declared.sessions.keeping.LiveFile.{LiveFile}
@@ -140,17 +140,10 @@ abbrev pub IsNotBegun : ServeFault → Option (List ℕ) → Dealing → Type 0
 IsNotBegun fault base deal = IsUnserved fault base deal.io.input
     × (deal.io.gained ≡ deal.io.written) × (deal.is ≡ deal.was)
 
--- what a session on a database comes to: it was served to its end; or it was not begun, with
--- nothing read, nothing written and its store left alone; or a fault came, and it was served up to
--- it
-abbrev pub ComesOn : Result Ending SessionFault → Service → Asked → Database → Dealing
-    → (reader writer keeper : Type 0) → Type 0
-ComesOn (Ok ending) service asked d deal reader writer keeper =
-    IsControlled service asked d × RunsOn (ComesFor service (Ok ending)) asked d deal
-ComesOn (Err fault) service asked d deal reader writer keeper =
-    (IsUnready service asked d fault × IsUntouched deal)
-    ⊎ ((why : ServeFault) × (fault ≡ Failed why) × IsServeFault reader writer keeper why
-    × IsControlled service asked d × RunsOn (ComesFor service (Err why)) asked d deal)
+-- what serving comes to, as what a session comes to
+abbrev pub session_end : Result Ending ServeFault → Result Ending SessionFault
+session_end (Ok ending) = Ok ending
+session_end (Err fault) = Err (Failed fault)
 
 -- it was served so, and moves no longrun that no program controls
 abbrev pub RunsControlled : Service → Result Ending ServeFault → Asked → Dealing → Type 0

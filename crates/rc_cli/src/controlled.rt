@@ -20,7 +20,7 @@ ghost use Rattle.rc_cli.specs.Controlled.{IsLongrunOf, LacksController, MovesAhe
 ghost use Rattle.rc_cli.specs.Controlled.{MovesByService, MovesBySaying, MovesLongrunOn};
 ghost use Rattle.rc_cli.specs.Steps.{lowering};
 
-use crate::sessions::{Launch, Service, copied, step_line};
+use crate::sessions::{Service, copied, step_line};
 use crate::updating::Ahead;
 use rc_args::{Making, Once, SessionRequest};
 use rc_db::Db;
@@ -36,24 +36,26 @@ use std::alloc::{AllocError, Global};
 /// database is read from the input.
 pub(crate) fn uncontrolled(
     alloc: Global,
-    launch: &Launch<'_>,
+    request: &SessionRequest<'_>,
+    service: Service<'_>,
+    base: Option<&[u8]>,
     session: &mut Session,
 ) -> Result<Option<String>, NoMem>
     requires closed { session.old.begun ≡ false }
     requires whole { session.old.spoiled ≡ false }
     ensures some { IfOk result (λ found. IfSome found (λ name.
-        (bytes_of launch.now.base ≢ None) × LacksController (session_ask_of launch.now.request.now)
-        × MovesByService launch.now.service session.old.database session.old.line
+        (bytes_of base.entry ≢ None) × LacksController (session_ask_of request.now)
+        × MovesByService service.entry session.old.database session.old.line
         (string_bytes name))) }
-    ensures none { IfOk result (λ found. IfNone found (bytes_of launch.now.base ≢ None →
-        LacksController (session_ask_of launch.now.request.now) → (name : List ℕ) →
-        MovesByService launch.now.service session.old.database session.old.line name → ⊥)) }
+    ensures none { IfOk result (λ found. IfNone found (bytes_of base.entry ≢ None →
+        LacksController (session_ask_of request.now) → (name : List ℕ) →
+        MovesByService service.entry session.old.database session.old.line name → ⊥)) }
     ensures same { session.new ≡ session.old }
 {
-    if launch.base.is_none() || !lacks_controller(launch.request) {
+    if base.is_none() || !lacks_controller(request) {
         return Ok(None);
     }
-    match launch.service {
+    match service {
         Service::Lines | Service::Line(Once::DryUndo | Once::DryRedo) => Ok(None),
         Service::Line(Once::Line(line)) => moved_by(alloc, session, line),
         Service::Restart(names) => moved_down(alloc, session, names),

@@ -22,7 +22,6 @@ pub use crate::sessions::host::{Host, RunFiles};
 pub use crate::sessions::keeping::{KeptText, LiveFile, Store, TextKeeper};
 pub use crate::sessions::launching::{launch, spelled, tell_ended};
 pub use crate::sessions::one_line::line_once;
-pub(crate) use crate::sessions::service::Launch;
 pub use crate::sessions::service::{Devices, Outputs, Service};
 pub use crate::sessions::session_fault::SessionFault;
 pub use crate::sessions::steps::{copied, step_line};

@@ -1,17 +1,14 @@
 //! `update`: what is live is carried over from one database to another.
 ghost use Rattle.std.specs.Prelude.{◌≡◌};
 ghost use Rattle.rc_streams.specs.Noting.{HasFailed, inner_of};
-ghost use Rattle.rc_args.specs.SessionAsked.{session_ask_of};
 ghost use Rattle.rc_args.specs.UpdateAsked.{update_ask_of};
-ghost use Rattle.rc_cli.specs.Filing.{CannotKeep};
 ghost use Rattle.rc_cli.specs.Storing.{store_of};
-ghost use Rattle.rc_cli.specs.UpdateEnds.{Updates, UpdatesBy};
+ghost use Rattle.rc_cli.specs.UpdateEnds.{Updates};
 
-use crate::sessions::{Devices, Host, LiveFile, Outputs, SessionFault, Store, spelled, tell_ended};
+use crate::sessions::{Devices, Host, LiveFile, Store, spelled, tell_ended};
 use crate::updating::update_on;
 use log::Log;
 use rc_args::UpdateRequest;
-use rc_serve::Ending;
 use std::io::Write;
 use std::sync::Wait;
 use std::thread::Threads;
@@ -47,35 +44,17 @@ pub fn update_as_asked<T: Threads + Wait + Sync, R, W: Write, F: Write, S: Store
         (F.contents devices.old.faults) (F.contents devices.new.faults) }
     ensures unread { devices.new.reader ≡ devices.old.reader }
 {
-    let ended = updated(host, request, old, new, live, &mut devices.outputs);
-    tell_ended(host.alloc, &mut devices.faults, ended)
-}
-
-// Carries out an update from the database of one text to that of another.
-fn updated<'a, T: Threads + Wait + Sync, W: Write, S: Store, L: Log + Sync>(
-    host: &Host<'_, T, L>,
-    request: &UpdateRequest<'a>,
-    old: &[u8],
-    new: &[u8],
-    live: LiveFile<'_>,
-    outputs: &mut Outputs<W, S>,
-) -> Result<Ending, SessionFault<'a>>
-    requires writer { HasFailed outputs.old.writer → ⊥ }
-    ensures ended { UpdatesBy result old.now new.now (update_ask_of request.now) live.entry
-        (S.holds (store_of outputs.old.keeper)) (S.holds (store_of outputs.new.keeper))
-        (W.contents (inner_of outputs.old.writer)) (W.contents (inner_of outputs.new.writer))
-        (HasFailed outputs.new.writer) (CannotKeep (session_ask_of request.now.session) live.entry
-        (S.failed (store_of outputs.new.keeper))) }
-{
     let from = match spelled(host.alloc, Some(old), &[]) {
         Ok((from, _none)) => from,
-        Err(fault) => return Err(fault),
+        Err(fault) => return tell_ended(host.alloc, &mut devices.faults, Err(fault)),
     };
-    match spelled(host.alloc, Some(new), &[]) {
-        Ok((to, _none)) => update_on(host, request, from, to, live, outputs),
+    let to = match spelled(host.alloc, Some(new), &[]) {
+        Ok((to, _none)) => to,
         Err(fault) => {
             drop(from);
-            Err(fault)
+            return tell_ended(host.alloc, &mut devices.faults, Err(fault));
         }
-    }
+    };
+    let ended = update_on(host, request, from, to, live, &mut devices.outputs);
+    tell_ended(host.alloc, &mut devices.faults, ended)
 }

@@ -1,11 +1,15 @@
-//! Where a session begins: with nothing up, or where the text of its file stands.
+//! A session begins with nothing up, or where the text of its file stands; and its gate.
 ghost use Rattle.std.specs.Prelude.{◌≡◌, ◌≤◌, IfErr, IfOk, OnOk};
 ghost use Rattle.rc_session.specs.Holding.{first_line};
+ghost use Rattle.rc_dbtext.specs.Base.{bytes_of};
+ghost use Rattle.rc_args.specs.Making.{making_ask_of};
 ghost use Rattle.rc_args.specs.SessionAsked.{session_ask_of};
 ghost use Rattle.rc_cli.specs.Filing.{BeginsBy, file_named};
+ghost use Rattle.rc_cli.specs.Gating.{IsGateFor};
 ghost use Rattle.rc_cli.specs.Serving.{session_on};
-ghost use Rattle.rc_cli.specs.Session.{asked_of};
+ghost use Rattle.rc_cli.specs.Session.{asked_with};
 ghost use Rattle.rc_cli.specs.SessionFaults.{IsControlled, IsFileFault, IsTextFaultOf, IsUnbegun};
+ghost use Rattle.rc_cli.specs.SessionFaults.{IsUnready};
 ghost use Rattle.rc_cli.specs.declared.sessions.session_fault.SessionFault.TheVariants.{Failed};
 ghost use Rattle.rc_serve.specs.declared.fault.ServeFault.TheVariants.{Memory};
 ghost use Rattle.rc_model.specs.Line.{Line};
@@ -13,35 +17,77 @@ ghost use Rattle.rc_livetext.specs.Spelling.{Spells};
 ghost use Rattle.rc_model.specs.Session.{IsLineOf};
 
 use crate::controlled::uncontrolled;
+use crate::sessions::gates::gate_for;
+use crate::sessions::host::Host;
 use crate::sessions::keeping::LiveFile;
-use crate::sessions::service::Launch;
+use crate::sessions::service::Service;
 use crate::sessions::session_fault::SessionFault;
+use log::Log;
 use rc_args::SessionRequest;
 use rc_db::Db;
 use rc_livetext::{laws as live_laws, read_live};
+use rc_runner::{SessionGate, Telling};
 use rc_serve::ServeFault;
 use rc_session::Session;
 use std::alloc::Global;
 
-/// Creates the session of a service on a database, where it begins. Fails if the service moves a
-/// longrun that no program controls.
-pub(crate) fn begin_controlled<'a>(
+/// Creates the gate that the options ask for, and the session of a service on a database, where it
+/// begins. Fails if the service moves a longrun that no program controls.
+pub(crate) fn begin_gated<'h, 'a, T, L: Log + Sync>(
+    host: &Host<'h, T, L>,
+    db: Db,
+    request: &SessionRequest<'a>,
+    service: Service<'_>,
+    base: Option<&[u8]>,
+    live: LiveFile<'_>,
+) -> Result<(Telling<'h, L, SessionGate<'h, HostRuntime, L>>, Session), SessionFault<'a>>
+    ensures gate { IfOk result (λ both. IsGateFor db (making_ask_of request.now.making) both.0) }
+    ensures begun { IfOk result (λ both. (start : Line) × BeginsBy db request.now.bound
+        (file_named (session_ask_of request.now).live live.entry) start
+        × (both.1 ≡ session_on db start)) }
+    ensures controlled { OnOk result (IsControlled service.entry
+        (asked_with (session_ask_of request.now) (bytes_of base.entry) live.entry) db) }
+    ensures fault { IfErr result (IsUnready service.entry
+        (asked_with (session_ask_of request.now) (bytes_of base.entry) live.entry) db) }
+{
+    let gate = match gate_for(host, &db, &request.making, request.verbosity) {
+        Ok(gate) => gate,
+        Err(fault) => {
+            drop(db);
+            return Err(fault);
+        }
+    };
+    match begin_controlled(host.alloc, db, request, service, base, live) {
+        Ok(session) => Ok((gate, session)),
+        Err(fault) => {
+            drop(gate);
+            Err(fault)
+        }
+    }
+}
+
+// Creates the session of a service on a database, where it begins. Fails if the service moves a
+// longrun that no program controls.
+fn begin_controlled<'a>(
     alloc: Global,
     db: Db,
-    launch: &Launch<'_>,
+    request: &SessionRequest<'_>,
+    service: Service<'_>,
+    base: Option<&[u8]>,
+    live: LiveFile<'_>,
 ) -> Result<Session, SessionFault<'a>>
-    ensures begun { IfOk result (λ session. (start : Line)
-        × BeginsBy db (asked_of launch.now).ask.bound
-        (file_named (asked_of launch.now).ask.live (asked_of launch.now).file) start
+    ensures begun { IfOk result (λ session. (start : Line) × BeginsBy db request.now.bound
+        (file_named (session_ask_of request.now).live live.entry) start
         × (session ≡ session_on db start)) }
-    ensures controlled { OnOk result
-        (IsControlled launch.now.service (asked_of launch.now) db) }
-    ensures fault { IfErr result (IsUnbegun launch.now.service (asked_of launch.now) db) }
+    ensures controlled { OnOk result (IsControlled service.entry
+        (asked_with (session_ask_of request.now) (bytes_of base.entry) live.entry) db) }
+    ensures fault { IfErr result (IsUnbegun service.entry
+        (asked_with (session_ask_of request.now) (bytes_of base.entry) live.entry) db) }
 {
     live_laws::spelling_is_unique();
     let _names = db.names();
-    let mut session = begin(alloc, db, launch.request, launch.live)?;
-    match uncontrolled(alloc, launch, &mut session) {
+    let mut session = begin(alloc, db, request, live)?;
+    match uncontrolled(alloc, request, service, base, &mut session) {
         Ok(None) => Ok(session),
         Ok(Some(name)) => {
             drop(session);

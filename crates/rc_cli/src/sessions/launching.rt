@@ -1,25 +1,26 @@
 //! A session is launched: its database, its gate and where it begins are found, it is served, and
 //! its status is returned.
-ghost use Rattle.std.specs.Prelude.{◌≡◌, ◌+◌, IfErr, IfOk};
+ghost use Rattle.std.specs.Prelude.{◌≡◌, ◌+◌, Err, IfErr, IfOk, OnOk};
 ghost use Rattle.rc_streams.specs.Input.{AppendsFront, ConsumesAtMost, fault_line};
 ghost use Rattle.rc_streams.specs.Noting.{HasFailed, inner_of};
 ghost use Rattle.rc_dbtext.specs.Base.{Spells, bytes_of};
+ghost use Rattle.rc_dbtext.specs.Opening.{Reads};
 ghost use Rattle.rc_args.specs.SessionAsked.{session_ask_of};
-ghost use Rattle.rc_cli.specs.Filing.{CannotKeep};
 ghost use Rattle.rc_cli.specs.Launching.{Launches};
-ghost use Rattle.rc_cli.specs.Services.{OfLines};
-ghost use Rattle.rc_cli.specs.Session.{asked_of, asked_with, dealt};
-ghost use Rattle.rc_cli.specs.SessionFaults.{ComesOn, EndsAs, IsEndTold, IsUnspelled};
-ghost use Rattle.rc_cli.specs.SessionFaults.{reading_fault, serve_word, status_of};
+ghost use Rattle.rc_cli.specs.Session.{asked_with, dealt};
+ghost use Rattle.rc_cli.specs.SessionFaults.{IsEndTold, IsUnserved, IsUnspelled, reading_fault};
+ghost use Rattle.rc_cli.specs.SessionFaults.{serve_word, session_end, status_of};
 ghost use Rattle.rc_cli.specs.Storing.{store_of};
+ghost use Rattle.rc_serve.specs.Faults.{IsServeFault};
 ghost use Rattle.rc_serve.specs.declared.fault.ServeFault.TheVariants.{Read as Unread};
 
-use crate::sessions::beginning::begin_controlled;
-use crate::sessions::gates::gate_for;
+use crate::sessions::beginning::begin_gated;
 use crate::sessions::host::Host;
 use crate::sessions::keeping::{LiveFile, Store};
-use crate::sessions::service::{Devices, Launch, Outputs, Service};
-use crate::sessions::serving::serve_service;
+use crate::sessions::one_line::serve_once;
+use crate::sessions::restarting::restart_in;
+use crate::sessions::service::{Devices, Service};
+use crate::sessions::serving::serve_lines;
 use crate::sessions::session_fault::{SessionFault, tell_session_fault};
 use log::Log;
 use rc_args::SessionRequest;
@@ -73,35 +74,67 @@ pub fn launch<T: Threads + Wait + Sync, R: Read, W: Write, F: Write, S: Store, L
     ensures taken { ConsumesAtMost (R.remaining (inner_of devices.old.reader))
         (R.remaining (inner_of devices.new.reader)) (MAX_INPUT + 1) }
 {
-    let launch = Launch {
-        request,
-        service,
-        base,
-        live,
-    };
-    let alloc = host.alloc;
+    let reader = &mut devices.reader;
     let outputs = &mut devices.outputs;
-    let faults = &mut devices.faults;
-    match base {
-        Some(bytes) => match spelled(alloc, Some(bytes), &[]) {
-            Ok((db, _none)) => launch_on(host, launch, db, &mut devices.reader, outputs, faults),
-            Err(fault) => tell_ended(alloc, faults, Err(fault)),
+    let input = match whole_input(host.alloc, base, reader) {
+        Ok(input) => input,
+        Err(fault) => return tell_served(host.alloc, &mut devices.faults, Err(fault)),
+    };
+    let (db, lines) = match spelled(host.alloc, base, &input) {
+        Ok(read) => read,
+        Err(fault) => return tell_ended(host.alloc, &mut devices.faults, Err(fault)),
+    };
+    let (gate, mut session) = match begin_gated(host, db, request, service, base, live) {
+        Ok(begun) => begun,
+        Err(fault) => return tell_ended(host.alloc, &mut devices.faults, Err(fault)),
+    };
+    let mut rest = Noted::new(lines);
+    let served = match service {
+        Service::Line(once) => serve_once(host, request, &mut session, &gate, once, outputs),
+        Service::Restart(names) => restart_in(host, request, names, &mut session, &gate, outputs),
+        Service::Lines => match base {
+            Some(_) => serve_lines(host, request, &mut session, &gate, reader, outputs),
+            None => serve_lines(host, request, &mut session, &gate, &mut rest, outputs),
         },
-        None => {
-            let input = match read_all(alloc, &mut devices.reader) {
-                Ok(input) => input,
-                Err(failure) => {
-                    let fault = SessionFault::Failed(reading_fault(failure));
-                    return tell_ended(alloc, faults, Err(fault));
-                }
-            };
-            match spelled(alloc, None, &input) {
-                Ok((db, lines)) => {
-                    launch_on(host, launch, db, &mut Noted::new(lines), outputs, faults)
-                }
-                Err(fault) => tell_ended(alloc, faults, Err(fault)),
-            }
-        }
+    };
+    drop((session, gate));
+    tell_served(host.alloc, &mut devices.faults, served)
+}
+
+// Reads the whole input, if the database stands at its beginning. With a base reads nothing.
+fn whole_input<R: Read>(
+    alloc: Global,
+    base: Option<&[u8]>,
+    reader: &mut Noted<R>,
+) -> Result<Vec<u8>, ServeFault>
+    requires { HasFailed reader.old → ⊥ }
+    ensures read { IfOk result (λ input. Reads (bytes_of base.entry)
+        (R.remaining (inner_of reader.old)) (R.remaining (inner_of reader.new)) input.items) }
+    ensures sound { OnOk result (HasFailed reader.new → ⊥) }
+    ensures fault { IfErr result (IsServeFault (HasFailed reader.new) ⊥ ⊥) }
+    ensures unserved { IfErr result (λ fault.
+        IsUnserved fault (bytes_of base.entry) (R.remaining (inner_of reader.old))) }
+    ensures told { HasFailed reader.new → result ≡ Err ServeFault.Read }
+    ensures taken { ConsumesAtMost (R.remaining (inner_of reader.old))
+        (R.remaining (inner_of reader.new)) (MAX_INPUT + 1) }
+{
+    match base {
+        Some(_) => Ok(Vec::new(alloc)),
+        None => match read_all(alloc, reader) {
+            Ok(input) => Ok(input),
+            Err(failure) => Err(reading_fault(failure)),
+        },
+    }
+}
+
+// Reports the fault of serving, if there is one, and returns the exit status.
+fn tell_served<F: Write>(alloc: Global, faults: &mut F, served: Result<Ending, ServeFault>) -> u8
+    ensures { IsEndTold (session_end served) result
+        (F.contents faults.old) (F.contents faults.new) }
+{
+    match served {
+        Ok(ending) => status_of(ending),
+        Err(fault) => tell_session_fault(alloc, faults, SessionFault::Failed(fault)),
     }
 }
 
@@ -127,53 +160,6 @@ fn status_of(ending: Ending) -> u8
         Ending::Done => DONE,
         Ending::Refused => REFUSED,
         Ending::Hindered => HINDERED,
-    }
-}
-
-// Launches a session on a database, over its own input. It uses the gate that the options ask for,
-// and goes on from where the session begins.
-fn launch_on<T: Threads + Wait + Sync, R: Read, W: Write, F: Write, S: Store, L: Log + Sync>(
-    host: &Host<'_, T, L>,
-    launch: Launch<'_>,
-    db: Db,
-    reader: &mut Noted<R>,
-    outputs: &mut Outputs<W, S>,
-    faults: &mut F,
-) -> u8
-    requires reader { HasFailed reader.old → ⊥ }
-    requires writer { HasFailed outputs.old.writer → ⊥ }
-    ensures ended { EndsAs (λ ended. ComesOn ended launch.entry.service (asked_of launch.entry) db
-        (dealt R.remaining W.contents S.holds reader.old reader.new outputs.old outputs.new)
-        (OfLines launch.entry.service (HasFailed reader.new)) (HasFailed outputs.new.writer)
-        (CannotKeep (asked_of launch.entry).ask (asked_of launch.entry).file
-        (S.failed (store_of outputs.new.keeper))))
-        result (F.contents faults.old) (F.contents faults.new) }
-    ensures cause { HasFailed reader.new → (result ≡ 111)
-        × AppendsFront (F.contents faults.old) (F.contents faults.new)
-        (fault_line (serve_word Unread)) }
-    ensures taken { ConsumesAtMost (R.remaining (inner_of reader.old))
-        (R.remaining (inner_of reader.new)) (MAX_INPUT + 1) }
-{
-    let request = launch.request;
-    let gate = match gate_for(host, &db, &request.making, request.verbosity) {
-        Ok(gate) => gate,
-        Err(fault) => {
-            drop(db);
-            return tell_ended(host.alloc, faults, Err(fault));
-        }
-    };
-    let mut session = match begin_controlled(host.alloc, db, &launch) {
-        Ok(session) => session,
-        Err(fault) => {
-            drop(gate);
-            return tell_ended(host.alloc, faults, Err(fault));
-        }
-    };
-    let ended = serve_service(host, launch, &mut session, &gate, reader, outputs);
-    drop((session, gate));
-    match ended {
-        Ok(ending) => tell_ended(host.alloc, faults, Ok(ending)),
-        Err(fault) => tell_ended(host.alloc, faults, Err(SessionFault::Failed(fault))),
     }
 }
 

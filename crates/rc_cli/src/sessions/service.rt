@@ -1,6 +1,6 @@
 //! What a session is launched for, and its devices.
-use crate::sessions::keeping::{LiveFile, TextKeeper};
-use rc_args::{Once, SessionRequest};
+use crate::sessions::keeping::TextKeeper;
+use rc_args::Once;
 use rc_streams::Noted;
 
 /// What a session is launched for.
@@ -12,17 +12,6 @@ pub enum Service<'a> {
     Line(&'a Once),
     /// A restart of these names: they go down, and what went down comes up again.
     Restart(&'a [String]),
-}
-
-/// A session to be launched.
-#[derive(Clone, Copy)]
-pub(crate) struct Launch<'a> {
-    pub request: &'a SessionRequest<'a>,
-    pub service: Service<'a>,
-    /// The text of its database. Without one the database stands at the beginning of the input.
-    pub base: Option<&'a [u8]>,
-    /// What stood in its file.
-    pub live: LiveFile<'a>,
 }
 
 /// Where the answers of a session go, and where it is kept.

@@ -1,4 +1,4 @@
-//! What a session is launched for is served: its lines, one line or a restart; and it is kept.
+//! The lines of an input are served on a session, and it is kept.
 ghost use Rattle.std.specs.Prelude.{◌≡◌, ◌≢◌, ◌+◌, ℕ, Bool, Option, false, Err, None, IfErr};
 ghost use Rattle.rc_graph.specs.declared.Way.{Way};
 ghost use Rattle.rc_streams.specs.Exchange.{exchanged};
@@ -8,14 +8,14 @@ ghost use Rattle.rc_serve.specs.Ending.{IsDoneAs};
 ghost use Rattle.rc_serve.specs.Faults.{IsServeFault};
 ghost use Rattle.rc_args.specs.SessionAsked.{session_ask_of};
 ghost use Rattle.rc_cli.specs.Serving.{as_done};
-ghost use Rattle.rc_cli.specs.Services.{ComesFor, Lets, OfLines, done_by};
+ghost use Rattle.rc_cli.specs.Services.{ComesFor, Lets, done_by};
 ghost use Rattle.rc_cli.specs.Storing.{store_of};
+ghost use Rattle.rc_cli.specs.declared.sessions.service.Service.TheVariants.{Lines};
 
 use crate::sessions::host::Host;
 use crate::sessions::keeping::Store;
-use crate::sessions::one_line::serve_once;
-use crate::sessions::restarting::restart_in;
-use crate::sessions::service::{Launch, Outputs, Service};
+use crate::sessions::service::Outputs;
+use rc_args::SessionRequest;
 use rc_board::Gate;
 use rc_serve::{Ending, Keeper, ServeFault, serve, serve_kept};
 use rc_session::Session;
@@ -24,12 +24,11 @@ use std::io::{Read, Write};
 use std::sync::Wait;
 use std::thread::Threads;
 
-/// Serves what a session is launched for. The session must be whole. If a file is named, a session
-/// of lines is kept, first of all where it begins, so that a store that fails is found before
-/// anything is done.
-pub(crate) fn serve_service<T: Threads + Wait + Sync, R: Read, W: Write, G: Gate, S: Store, L>(
+/// Serves the lines of an input on a whole session. If a file is named, the session is kept, first
+/// of all where it begins, so that a store that fails is found before anything is done.
+pub(crate) fn serve_lines<T: Threads + Wait + Sync, R: Read, W: Write, G: Gate, S: Store, L>(
     host: &Host<'_, T, L>,
-    launch: Launch<'_>,
+    request: &SessionRequest<'_>,
     session: &mut Session,
     gate: &G,
     reader: &mut Noted<R>,
@@ -41,46 +40,40 @@ pub(crate) fn serve_service<T: Threads + Wait + Sync, R: Read, W: Write, G: Gate
     requires writer { HasFailed outputs.old.writer → ⊥ }
     ensures served { (fails : Option (ℕ → Way → Bool)) →
         Lets (G.answers gate.now) (G.gives gate.now) (R.remaining (inner_of reader.old)) fails →
-        ComesFor launch.entry.service result (session_ask_of launch.entry.request.now).live
+        ComesFor Lines result (session_ask_of request.now).live
         (S.holds (store_of outputs.old.keeper)) (S.holds (store_of outputs.new.keeper))
-        (done_by launch.entry.request.now.workers (G.answers gate.now) (G.gives gate.now) fails)
-        (IsDoneAs launch.entry.request.now.workers (G.answers gate.now) (G.gives gate.now))
+        (done_by request.now.workers (G.answers gate.now) (G.gives gate.now) fails)
+        (IsDoneAs request.now.workers (G.answers gate.now) (G.gives gate.now))
         (exchanged R.remaining W.contents reader.old reader.new
         outputs.old.writer outputs.new.writer) session.old session.new }
-    ensures fault { IfErr result (IsServeFault (OfLines launch.entry.service (HasFailed reader.new))
-        (HasFailed outputs.new.writer) (((session_ask_of launch.entry.request.now).live ≢ None)
-        × S.failed (store_of outputs.new.keeper))) }
+    ensures fault { IfErr result (IsServeFault (HasFailed reader.new) (HasFailed outputs.new.writer)
+        (((session_ask_of request.now).live ≢ None) × S.failed (store_of outputs.new.keeper))) }
     ensures told { HasFailed reader.new → result ≡ Err ServeFault.Read }
     ensures taken { ConsumesAtMost (R.remaining (inner_of reader.old))
         (R.remaining (inner_of reader.new)) (MAX_INPUT + 1) }
 {
-    let request = launch.request;
-    match launch.service {
-        Service::Line(once) => serve_once(host, request, session, gate, once, outputs),
-        Service::Restart(names) => restart_in(host, request, names, session, gate, outputs),
-        Service::Lines => match request.live {
-            None => as_done(serve(
+    match request.live {
+        None => as_done(serve(
+            host.threads,
+            host.alloc,
+            reader,
+            &mut outputs.writer,
+            session,
+            gate,
+            request.workers,
+        )),
+        Some(_) => match outputs.keeper.keep(host.alloc, session) {
+            Ok(()) => as_done(serve_kept(
                 host.threads,
                 host.alloc,
                 reader,
                 &mut outputs.writer,
                 session,
+                &mut outputs.keeper,
                 gate,
                 request.workers,
             )),
-            Some(_) => match outputs.keeper.keep(host.alloc, session) {
-                Ok(()) => as_done(serve_kept(
-                    host.threads,
-                    host.alloc,
-                    reader,
-                    &mut outputs.writer,
-                    session,
-                    &mut outputs.keeper,
-                    gate,
-                    request.workers,
-                )),
-                Err(fault) => Err(ServeFault::from(fault)),
-            },
+            Err(fault) => Err(ServeFault::from(fault)),
         },
     }
 }

@@ -1,5 +1,38 @@
+use Rattle.std.proofs.Common.{Err, inl, inr, refl}
 use Rattle.rc_cli.proofs.update.update_as_asked.Goals as goal
+
+pub returns-in-Err-clause-ended : goal.returns-in-Err-clause-ended
+returns-in-Err-clause-ended g c = (
+  Err c.in-Err.fault,
+  inl (c.in-Err.fault, refl, inl c.in-Err.ensures.fault, refl, refl),
+  c.tell_ended.ensures,
+)
+
+pub returns-in-Err-spelled-clause-ended : goal.returns-in-Err-spelled-clause-ended
+returns-in-Err-spelled-clause-ended g c =
+    let old = c.in-Ok.ensures.spelled in (
+      Err c.in-Err-spelled.fault,
+      inl (
+        c.in-Err-spelled.fault,
+        refl,
+        inr (c.in-Ok.from, (old.0, old.1, old.2, refl), c.in-Err-spelled.ensures.fault),
+        refl,
+        refl,
+      ),
+      c.tell_ended-in-Err-spelled.ensures,
+    )
 
 pub returns-clause-ended : goal.returns-clause-ended
 returns-clause-ended g c =
-    (c.updated-ended.result, c.updated-ended.ensures.ended, c.tell_ended.ensures)
+    let old = c.in-Ok.ensures.spelled in
+    let new = c.in-Ok-spelled.ensures.spelled in (
+      c.update_on-ended.result,
+      inr (
+        c.in-Ok.from,
+        c.in-Ok-spelled.to,
+        (old.0, old.1, old.2, refl),
+        (new.0, new.1, new.2, refl),
+        c.update_on-ended.ensures.ended,
+      ),
+      c.tell_ended-2.ensures,
+    )

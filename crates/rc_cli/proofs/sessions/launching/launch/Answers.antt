@@ -1,127 +1,174 @@
-use Rattle.std.proofs.Common.{◌≤◌, ℕ, List, [], Bor, Err, None, Some, ap, arith, inl, inr, length}
-use Rattle.std.proofs.Common.{refl, subst, sym}
-use Rattle.rc_streams.specs.Noting.{HasFailed, inner_of}
+use Rattle.std.proofs.Common.{◌≡◌, ◌∙◌, ℕ, List, [], Option, Some, Bor, Err, ap, inl, inr, refl}
+use Rattle.std.proofs.Common.{subst, sym}
+use Rattle.rc_streams.specs.Noting.{inner_of}
 use Rattle.rc_dbtext.specs.Base.{Spells, bytes_of}
 use Rattle.rc_args.specs.SessionAsked.{session_ask_of}
-use Rattle.rc_cli.specs.Services.{OfLines}
 use Rattle.rc_cli.specs.Session.{asked_with, dealt}
-use Rattle.rc_cli.specs.SessionFaults.{IsUnspelled}
+use Rattle.rc_cli.specs.SessionFaults.{IsEndTold, IsUnspelled, session_end}
+use Rattle.rc_cli.specs.Storing.{store_of}
 use Rattle.rc_cli.specs.declared.sessions.session_fault.SessionFault.TheVariants.{Failed}
-use Rattle.rc_cli.specs.declared.sessions.service.Service.{Service}
-use Rattle.rc_cli.specs.declared.sessions.service.Service.TheVariants.{Lines, Line as OneLine}
-use Rattle.rc_cli.specs.declared.sessions.service.Service.TheVariants.{Restart}
-use Rattle.rc_cli.proofs.LaunchLemmas.{comes_in, reading_ends, told_read, unread_told}
-use Rattle.rc_cli.proofs.LaunchLemmas.{unspelled_ends}
+use Rattle.rc_cli.proofs.SessionLemmas.{fault_wider}
+use Rattle.rc_cli.proofs.LaunchLemmas.{err_as, opens_alone, opens_based, opens_rest, served_ends}
+use Rattle.rc_cli.proofs.LaunchLemmas.{taken_based, told_read, unready_ends, unspelled_ends}
+use Rattle.rc_cli.proofs.OnceLemmas.{fault_with}
+use Rattle.rc_cli.proofs.ServingLemmas.{named_some}
 use Rattle.rc_cli.proofs.sessions.launching.launch.Goals as goal
+use Rattle.rc_cli.proofs.sessions.launching.launch.Goals.{in-Line, in-Restart}
+use Rattle.rc_cli.proofs.sessions.launching.launch.Goals.{in-Lines+in-Some, in-Lines+in-None}
 
--- what holds of lines alone does so by another word
-of_lines : (service : Service) (P Q : Type 0) → (P → Q) → OfLines service P → OfLines service Q
-of_lines Lines P Q so p = so p
-of_lines (OneLine once) P Q so p = p
-of_lines (Restart names) P Q so p = p
+pub returns-in-Err-clause-ended : goal.returns-in-Err-clause-ended
+returns-in-Err-clause-ended g c = (
+  Err (Failed c.in-Err.fault),
+  (
+    fault_wider c.in-Err.fault _ _ _ _ _ _ (λ r. inl r) (λ w. absurd w) (λ k. absurd k)
+        c.in-Err.ensures.fault,
+    inl (c.in-Err.ensures.unserved, refl, refl),
+  ),
+  c.tell_served.ensures,
+)
 
-lines_of : (service : Service) (P : Type 0) → OfLines service P → P
-lines_of Lines P p = p
-lines_of (OneLine once) P p = absurd p
-lines_of (Restart names) P p = absurd p
+pub returns-in-Err-clause-cause : goal.returns-in-Err-clause-cause
+returns-in-Err-clause-cause g c failed =
+    told_read (Err c.in-Err.fault) c.tell_served.result
+    (g.F.Write.contents c.args.devices.now.faults) (g.F.Write.contents c.tell_served.new.faults)
+    (err_as c.whole_input.result c.in-Err.fault _ c.in-Err.is (c.whole_input.ensures.told failed))
+    c.tell_served.ensures
 
-pub returns-in-Some-clause-ended : goal.returns-in-Some-clause-ended
-returns-in-Some-clause-ended g c =
+pub returns-in-Err-spelled-clause-ended : goal.returns-in-Err-spelled-clause-ended
+returns-in-Err-spelled-clause-ended g c =
     let asked = asked_with (session_ask_of c.args.request.now) (bytes_of c.args.base) c.args.live in
     let deal = dealt g.R.Read.remaining g.W.Write.contents g.S.Store.holds
-    c.args.devices.now.reader c.args.devices.now.reader c.args.devices.now.outputs
+    c.args.devices.now.reader c.whole_input.new.reader c.args.devices.now.outputs
     c.args.devices.now.outputs in (
-      Err c.in-Err.fault,
-      unspelled_ends c.args.service asked deal (Some c.in-Some.bytes.now) _ _ _
-          (ap bytes_of c.in-Some.is) refl refl c.in-Err.fault [] (refl, refl)
-          c.in-Err.ensures.fault,
+      Err c.in-Err-spelled.fault,
+      unspelled_ends c.args.service asked deal _ _ _ refl refl c.in-Ok.input.items
+          c.in-Ok.ensures.read c.in-Err-spelled.fault
+          (subst (λ (bytes : List ℕ).
+          IsUnspelled (bytes_of c.args.base) bytes c.in-Err-spelled.fault)
+          c.deref.ensures.value c.in-Err-spelled.ensures.fault),
       c.tell_ended.ensures,
     )
 
-pub returns-in-Ok-clause-ended : goal.returns-in-Ok-clause-ended
-returns-in-Ok-clause-ended g c =
+pub returns-in-Err-begin_gated-clause-ended : goal.returns-in-Err-begin_gated-clause-ended
+returns-in-Err-begin_gated-clause-ended g c =
     let asked = asked_with (session_ask_of c.args.request.now) (bytes_of c.args.base) c.args.live in
     let deal = dealt g.R.Read.remaining g.W.Write.contents g.S.Store.holds
-    c.args.devices.now.reader c.launch_on.new.reader c.args.devices.now.outputs
-    c.launch_on.new.outputs in
-    let spelled = c.in-Ok.ensures.spelled in
-    let end = c.launch_on.ensures.ended in (
-      end.0,
-      comes_in c.args.service asked deal deal (Some c.in-Some.bytes.now) c.in-Ok.db
-          (ap bytes_of c.in-Some.is) ((spelled.0, spelled.1, spelled.2, refl), refl, refl) refl
-          end.0 _ _ _ _ (λ failed. inl (lines_of c.args.service _ failed)) end.1,
-      end.2,
+    c.args.devices.now.reader c.whole_input.new.reader c.args.devices.now.outputs
+    c.args.devices.now.outputs in
+    let d = c.in-Ok-spelled.read.0 in
+    let rest = c.in-Ok-spelled.read.1.now in (
+      Err c.in-Err-begin_gated.fault,
+      unready_ends c.args.service asked deal _ _ _ refl refl c.in-Ok.input.items
+          c.in-Ok.ensures.read c.in-Err-begin_gated.fault d rest
+          (subst (λ (bytes : List ℕ). Spells (bytes_of c.args.base) bytes d rest)
+          c.deref.ensures.value c.in-Ok-spelled.ensures.spelled)
+          c.in-Err-begin_gated.ensures.fault,
+      c.tell_ended-in-Err-begin_gated.ensures,
     )
-
-pub returns-in-Err-read_all-clause-ended : goal.returns-in-Err-read_all-clause-ended
-returns-in-Err-read_all-clause-ended g c =
-    let asked = asked_with (session_ask_of c.args.request.now) (bytes_of c.args.base) c.args.live in
-    let deal = dealt g.R.Read.remaining g.W.Write.contents g.S.Store.holds
-    c.args.devices.now.reader c.read_all.new.reader c.args.devices.now.outputs
-    c.args.devices.now.outputs in (
-      Err (Failed c.reading_fault.result),
-      reading_ends c.reading_fault.result c.in-Err-read_all.failure c.args.service asked deal
-          (HasFailed c.read_all.new.reader) _ _ _ (ap bytes_of c.in-None.is) refl refl
-          c.reading_fault.ensures c.in-Err-read_all.ensures.fault,
-      c.tell_ended-in-Err-read_all.ensures,
-    )
-
-pub returns-in-Err-read_all-clause-cause : goal.returns-in-Err-read_all-clause-cause
-returns-in-Err-read_all-clause-cause g c failed =
-    told_read (Err (Failed c.reading_fault.result)) c.tell_ended-in-Err-read_all.result
-    (g.F.Write.contents c.args.devices.now.faults)
-    (g.F.Write.contents c.tell_ended-in-Err-read_all.new.faults)
-    (unread_told c.read_all.result c.in-Err-read_all.failure c.reading_fault.result
-    (HasFailed c.args.devices.now.reader) (c.read_all.ensures.told failed) c.requires.reader
-    c.in-Err-read_all.is c.reading_fault.ensures) c.tell_ended-in-Err-read_all.ensures
 
 pub returns-clause-ended : goal.returns-clause-ended
 returns-clause-ended g c =
-    let asked = asked_with (session_ask_of c.args.request.now) (bytes_of c.args.base) c.args.live in
-    let deal = dealt g.R.Read.remaining g.W.Write.contents g.S.Store.holds
-    c.args.devices.now.reader c.read_all.new.reader c.args.devices.now.outputs
-    c.args.devices.now.outputs in
-    let all = c.in-Ok-read_all.input.items in
-    let within : length all ≤ 16777216 =
-    omega (arith, c.in-Ok-read_all.input.ok.0, c.in-Ok-read_all.ensures.within) in (
-      Err c.in-Err-spelled.fault,
-      unspelled_ends c.args.service asked deal None _ _ _ (ap bytes_of c.in-None.is) refl refl
-          c.in-Err-spelled.fault all
-          (c.in-Ok-read_all.ensures.whole, within, c.in-Ok-read_all.ensures.end)
-          (subst (λ (bytes : List ℕ). IsUnspelled None bytes c.in-Err-spelled.fault)
-          c.deref.ensures.value c.in-Err-spelled.ensures.fault),
-      c.tell_ended-in-Err-spelled.ensures,
+    let service = c.args.service in
+    let base = bytes_of c.args.base in
+    let asked = asked_with (session_ask_of c.args.request.now) base c.args.live in
+    let reader = c.args.devices.now.reader in
+    let outputs = c.args.devices.now.outputs in
+    let read = c.whole_input.new.reader in
+    let before = g.R.Read.remaining (inner_of reader) in
+    let after = g.R.Read.remaining (inner_of read) in
+    let all = c.in-Ok.input.items in
+    let d = c.in-Ok-spelled.read.0 in
+    let lines = c.in-Ok-spelled.read.1 in
+    let reads = c.in-Ok.ensures.read in
+    let spelled : Spells base all d lines.now =
+    subst (λ (bytes : List ℕ). Spells base bytes d lines.now) c.deref.ensures.value
+    c.in-Ok-spelled.ensures.spelled in
+    let alone = opens_alone base before after d all lines.now reads spelled in
+    let gate = c.in-Ok-begin_gated.begun.0 in
+    let session = c.in-Ok-begin_gated.begun.1 in
+    let controlled = c.in-Ok-begin_gated.ensures.controlled in
+    let made = c.in-Ok-begin_gated.ensures.gate in
+    let begun = c.in-Ok-begin_gated.ensures.begun in
+    let same : g.F.Write.contents c.match-service.devices.faults
+    ≡ g.F.Write.contents c.args.devices.now.faults = elim c.match-service.branch [
+      | in-Line w ↦ rw w.devices-is refl
+      | in-Restart w ↦ rw w.devices-is refl
+      | in-Lines+in-Some w ↦ rw w.devices-is refl
+      | in-Lines+in-None w ↦ rw w.devices-is refl
+    ] in (
+      session_end c.match-service.served,
+      elim c.match-service.branch [
+        | in-Line w ↦
+            let deal = dealt g.R.Read.remaining g.W.Write.contents g.S.Store.holds reader read
+            outputs w.serve_once-served.new.outputs in
+            rw w.devices-is (rw w.served-is (served_ends service asked deal alone.0 alone.0 d gate
+            session w.serve_once-served.new.session alone.1 controlled made begun
+            w.serve_once-served.result _ _ _
+            (λ fails lets. rw w.in-Line.is (refl, w.serve_once-served.ensures.served))
+            (fault_with w.serve_once-served.result ⊥ _ _ _ _ (λ x. absurd x)
+            (λ k. (k.0, inr k.1)) w.serve_once-served.ensures.fault)))
+        | in-Restart w ↦
+            let deal = dealt g.R.Read.remaining g.W.Write.contents g.S.Store.holds reader read
+            outputs w.restart_in-served.new.outputs in
+            rw w.devices-is (rw w.served-is (served_ends service asked deal alone.0 alone.0 d gate
+            session session alone.1 controlled made begun w.restart_in-served.result _ _ _
+            (λ fails lets. rw w.in-Restart.is (refl, w.restart_in-served.ensures.served))
+            (fault_with w.restart_in-served.result ⊥ _ _ _ _ (λ x. absurd x)
+            (λ k. (k.0, inr k.1)) w.restart_in-served.ensures.fault)))
+        | in-Lines+in-Some w ↦
+            let left = w.serve_lines.new.reader in
+            let deal = dealt g.R.Read.remaining g.W.Write.contents g.S.Store.holds reader left
+            outputs w.serve_lines.new.outputs in
+            rw w.devices-is (rw w.served-is (served_ends service asked deal after
+            (g.R.Read.remaining (inner_of left)) d gate session w.serve_lines.new.session
+            (opens_based base before after (g.R.Read.remaining (inner_of left)) d all lines.now
+            (named_some (λ b. b.now) c.args.base _ w.in-Some.is) reads spelled)
+            controlled made begun w.serve_lines.result _ _ _
+            (λ fails lets. rw w.in-Lines.is (w.serve_lines.ensures.served fails lets))
+            (fault_with w.serve_lines.result _ _ _ _ _ (λ r. inl r) (λ k. (k.0, inr k.1))
+            w.serve_lines.ensures.fault)))
+        | in-Lines+in-None w ↦
+            let none = ap bytes_of w.in-None.is in
+            let deal = dealt g.R.Read.remaining g.W.Write.contents g.S.Store.holds reader read
+            outputs w.serve_lines-in-None.new.outputs in
+            let rest = (inner_of c.new-rest.result).now in
+            let left = Some (inner_of w.serve_lines-in-None.new.reader).now in
+            rw w.devices-is (rw w.served-is (served_ends service asked deal (Some rest) left d gate
+            session w.serve_lines-in-None.new.session
+            (opens_rest base before after left d all rest none reads
+            (subst (λ (l : Bor (List ℕ)). Spells base all d l.now) (sym c.new-rest.ensures.inner)
+            spelled))
+            controlled made begun w.serve_lines-in-None.result _ _ _
+            (λ fails lets. rw w.in-Lines.is (w.serve_lines-in-None.ensures.served fails lets))
+            (fault_with w.serve_lines-in-None.result _ _ _ _ _
+            (λ r. inr (rw w.in-Lines.is none)) (λ k. (k.0, inr k.1))
+            w.serve_lines-in-None.ensures.fault)))
+      ],
+      subst (λ (told : Option (List ℕ)). IsEndTold (session_end c.match-service.served)
+          c.tell_served-2.result told (g.F.Write.contents c.tell_served-2.new.faults)) same
+          c.tell_served-2.ensures,
     )
 
-pub returns-in-Ok-spelled-clause-ended : goal.returns-in-Ok-spelled-clause-ended
-returns-in-Ok-spelled-clause-ended g c =
-    let asked = asked_with (session_ask_of c.args.request.now) (bytes_of c.args.base) c.args.live in
-    let deal = dealt g.R.Read.remaining g.W.Write.contents g.S.Store.holds
-    c.args.devices.now.reader c.read_all.new.reader c.args.devices.now.outputs
-    c.launch_on-in-Ok-spelled.new.outputs in
-    let inner = dealt {R = Bor (List ℕ)} (λ rest. Some rest.now) g.W.Write.contents
-    g.S.Store.holds c.new.result c.launch_on-in-Ok-spelled.new.reader c.args.devices.now.outputs
-    c.launch_on-in-Ok-spelled.new.outputs in
-    let all = c.in-Ok-read_all.input.items in
-    let rest = (inner_of c.new.result).now in
-    let within : length all ≤ 16777216 =
-    omega (arith, c.in-Ok-read_all.input.ok.0, c.in-Ok-read_all.ensures.within) in
-    let spelled : Spells None all c.in-Ok-spelled.db rest =
-    subst (λ (l : Bor (List ℕ)). Spells None all c.in-Ok-spelled.db l.now)
-    (sym c.new.ensures.inner) (subst (λ (bytes : List ℕ).
-    Spells None bytes c.in-Ok-spelled.db c.in-Ok-spelled.lines.now)
-    c.deref.ensures.value c.in-Ok-spelled.ensures.spelled) in
-    let end = c.launch_on-in-Ok-spelled.ensures.ended in (
-      end.0,
-      comes_in c.args.service asked deal inner None c.in-Ok-spelled.db
-          (ap bytes_of c.in-None.is) (
-            all,
-            rest,
-            (c.in-Ok-read_all.ensures.whole, within, c.in-Ok-read_all.ensures.end),
-            spelled,
-            refl,
-          ) refl end.0 _ _ _ _
-          (λ failed. inr (of_lines c.args.service _ _ (λ _. ap bytes_of c.in-None.is) failed))
-          end.1,
-      end.2,
-    )
+pub returns-clause-cause : goal.returns-clause-cause
+returns-clause-cause g c failed = elim c.match-service.branch [
+  | in-Line w ↦ absurd (c.in-Ok.ensures.sound (rw w.devices-is at failed))
+  | in-Restart w ↦ absurd (c.in-Ok.ensures.sound (rw w.devices-is at failed))
+  | in-Lines+in-Some w ↦
+      told_read c.match-service.served c.tell_served-2.result
+      (g.F.Write.contents c.args.devices.now.faults)
+      (g.F.Write.contents c.tell_served-2.new.faults)
+      (w.served-is ∙ w.serve_lines.ensures.told (rw w.devices-is at failed))
+      (rw w.devices-is at c.tell_served-2.ensures)
+  | in-Lines+in-None w ↦ absurd (c.in-Ok.ensures.sound (rw w.devices-is at failed))
+]
+
+pub returns-clause-taken : goal.returns-clause-taken
+returns-clause-taken g c = elim c.match-service.branch [
+  | in-Line w ↦ rw w.devices-is c.whole_input.ensures.taken
+  | in-Restart w ↦ rw w.devices-is c.whole_input.ensures.taken
+  | in-Lines+in-Some w ↦
+      rw w.devices-is (taken_based (bytes_of c.args.base) _ _ _ c.in-Ok.input.items _
+      (named_some (λ b. b.now) c.args.base _ w.in-Some.is) c.in-Ok.ensures.read
+      w.serve_lines.ensures.taken)
+  | in-Lines+in-None w ↦ rw w.devices-is c.whole_input.ensures.taken
+]
