@@ -8,7 +8,7 @@ cd "$(dirname "$0")/../.."
 document=docs/FIGURES.md
 room=$(mktemp -d)
 trap 'rm -rf "$room"' EXIT
-all='instructions lines reading plans compile scripts changes session live histories bounds gate'
+all='instructions lines reading plans compile scripts changes session live histories bounds boots gate'
 
 # says NAME: what the figures are
 says() {
@@ -91,6 +91,15 @@ END
 # Commands at the bound of their input
 
 Each command at the bound of its input, compared with half of it: 2 is linear.
+END
+            ;;
+        boots) cat <<'END'
+# A machine of 57 services, up and down: seconds by the clock
+
+`manage change default` and `shutdown` of `contrib/machine`, `make -j` and OpenRC, in one run, with the
+same scripts and the same controller under s6; the least and the most of three rounds. Scripts only
+sleep: the longest chain takes 6 s up and 0.6 s down. `boot` is a whole first process: from its start to
+the end of its boot, and from the signal to halt to the end of its shutdown.
 END
             ;;
         gate) cat <<'END'
