@@ -63,12 +63,8 @@ fingerprints() {
 changed() {
     {
         cat
-        (
-            cd "$set" 2> /dev/null || exit 0
-            set +f
-            set -- ./*/.undorc-print
-            [ ! -e "$1" ] || awk '{ split(FILENAME, part, "/"); print part[2], $0 }' "$@"
-        )
+        (set +f && cd "$set" && grep '' /dev/null ./*/.undorc-print) 2> /dev/null |
+            sed 's|^\./\([^/]*\)/\.undorc-print:|\1 |'
     } | LC_ALL=C sort | uniq -u | cut -d ' ' -f 1 | uniq | tr '\n' ' '
 }
 
@@ -94,49 +90,32 @@ differing_copies() {
     others=" $(fingerprints "$@" | changed)"
     for name; do
         case $others in
-            *" $name "*)
-                echo "$name: its source has changed since init was called"
-                continue
-                ;;
+            *" $name "*) echo "$name: its source has changed since init was called" ;;
+            *) tell_old "$name" ;;
         esac
-        tell_old "$name"
     done
 }
 
 # record NAME..: reads fingerprints and puts those of the names into their directories in the set
 record() {
-    names="$*" set=$set awk '
-        BEGIN {
-            count = split(ENVIRON["names"], names, " ")
-            for (i = 1; i <= count; i++) is_asked[names[i]] = 1
-        }
-        !(($1 "") in is_asked) { next }
-        ($1 "") != name {
-            if (name != "") close(file)
-            name = $1 ""
-            file = ENVIRON["set"] "/" name "/.undorc-print"
-        }
-        { print substr($0, length(name) + 2) > file }'
+    names=" $* " set=$set awk '
+        index(ENVIRON["names"], " " $1 " ") {
+            file = ENVIRON["set"] "/" $1 "/.undorc-print"
+            if (file != last) close(last)
+            last = file
+            print substr($0, length($1) + 2) > file
+        }'
 }
 
 # names_in FILE: prints the names in a file of names
 names_in() {
-    if [ -f "$1" ]; then
-        sed -e 's/^[[:blank:]]*//' -e 's/[[:blank:]]*$//' -e '/^#/d' -e '/^$/d' "$1"
-    fi
+    [ ! -f "$1" ] || awk '!/^[[:blank:]]*#/ && NF { print $1 }' "$1"
 }
 
-# join_pipes NAME DIR: gives a directory the fifos of its pipeline
+# join_pipes NAME DIR: gives a directory the fifos of its pipeline, which hold_pipes makes
 join_pipes() {
     consumer=$(names_in "$2/producer-for")
-    producers=$(names_in "$2/consumer-for")
-    [ -n "$consumer$producers" ] || return 0
-    pipes=$UNDORC_PLACE/.pipes
-    mkdir -p "$pipes" || return
-    for end in ${producers:+"$1"} ${consumer:+"$consumer"}; do
-        [ -p "$pipes/$end" ] || mkfifo -m 600 "$pipes/$end" || return
-    done
-    [ -z "$producers" ] || ln -s "../.pipes/$1" "$2/pipe-in" || return
+    [ -z "$(names_in "$2/consumer-for")" ] || ln -s "../.pipes/$1" "$2/pipe-in" || return
     [ -z "$consumer" ] || ln -s "../.pipes/$consumer" "$2/pipe-out"
 }
 
@@ -154,17 +133,13 @@ give_readiness() {
 # wrap_run NAME DIR: lets a directory's run begin with wrapped-run, where that has something to do
 wrap_run() {
     [ -x "$2/run" ] || return 0
-    is_wrapped=
-    if [ -e "$2/producer-for" ] || [ -e "$2/consumer-for" ]; then
-        join_pipes "$1" "$2" || return
-        is_wrapped=yes
+    if [ -e "$2/producer-for" ] || [ -e "$2/consumer-for" ]; then join_pipes "$1" "$2" || return; fi
+    case $UNDORC_SUPERVISOR in
+        runit) [ ! -e "$2/notification-fd" ] || give_readiness "$2" || return ;;
+    esac
+    if [ -L "$2/pipe-in" ] || [ -L "$2/pipe-out" ] || [ -e "$2/wrapped-notification" ]; then
+        mv "$2/run" "$2/run.own" && cp -p "$here/wrapped-run" "$2/run"
     fi
-    if [ "$UNDORC_SUPERVISOR" = runit ] && [ -e "$2/notification-fd" ]; then
-        give_readiness "$2" || return
-        is_wrapped=yes
-    fi
-    [ -n "$is_wrapped" ] || return 0
-    mv "$2/run" "$2/run.own" && cp "$here/wrapped-run" "$2/run" && chmod 755 "$2/run"
 }
 
 # carry_over DIR: gives runit what s6 reads in a service directory: down-signal is sent by control/t,
@@ -176,7 +151,7 @@ carry_over() {
             > "$1/control/t" && chmod 755 "$1/control/t" || return
     fi
     [ ! -x "$1/finish" ] || mv "$1/finish" "$1/finish.own" || return
-    cp "$here/wrapped-finish" "$1/finish" && chmod 755 "$1/finish"
+    cp -p "$here/wrapped-finish" "$1/finish"
 }
 
 # copy_entry NAME: makes the directory of NAME in the set anew. It starts few programs, since a machine
@@ -227,11 +202,6 @@ empty_copy() {
     done
 }
 
-# has_log DIR: prints whether the supervisor runs a logger for it
-has_log() {
-    if [ -d "$1/log" ]; then echo yes; else echo no; fi
-}
-
 # relink NAME: puts a copy that is down under a new supervisor, and waits ten seconds for that
 relink() {
     link_copy "$1" && rescan && within 100 has_supervisor "$UNDORC_SCAN/$1"
@@ -243,7 +213,9 @@ relink() {
 renew_copy() {
     copy=$UNDORC_PLACE/$1 relinks=
     if [ ! -d "$set/$1" ] || is_renewed "$1"; then return 0; fi
-    if [ "$(has_log "$set/$1")" != "$(has_log "$copy")" ]; then
+    logs=0
+    for log in "$set/$1/log" "$copy/log"; do [ ! -d "$log" ] || logs=$((logs + 1)); done
+    if [ "$logs" -eq 1 ]; then
         remove_supervisor "$1" && rm -rf "$copy/log" || return
         relinks=yes
     fi
@@ -256,24 +228,22 @@ remove_copy() {
     remove_supervisor "$1" && rm -rf "${UNDORC_PLACE:?}/$1" "$UNDORC_PLACE/.pipes/$1"
 }
 
-# hold_pipes: makes fifos that are missing, and starts the process that holds all of them open, or makes
-# it look for new ones
+# hold_pipes: makes the fifos of the set that are missing, and starts the process that holds all of
+# them open, or makes it look for new ones
 hold_pipes() {
-    [ -d "$UNDORC_PLACE/.pipes" ] || return 0
     set +f
-    for end in "$UNDORC_PLACE"/*/pipe-*; do
-        if [ -L "$end" ] && [ ! -p "$end" ]; then
-            mkfifo -m 600 "$UNDORC_PLACE/.pipes/$(basename "$(readlink "$end")")" || return
-        fi
+    for end in "$set"/*/pipe-*; do
+        fifo=$UNDORC_PLACE/.pipes/$(basename "$(readlink "$end")")
+        [ -p "$fifo" ] || [ ! -L "$end" ] || { mkdir -p "${fifo%/*}" && mkfifo -m 600 "$fifo"; } || return
     done
+    [ -d "$UNDORC_PLACE/.pipes" ] || return 0
     holder=$UNDORC_PLACE/.holder
     if [ -d "$UNDORC_SCAN/undorc-pipes" ]; then
         hang_up "$UNDORC_SCAN/undorc-pipes" || true
         return
     fi
     mkdir -p "$holder" &&
-        printf "#!/bin/sh\nexec '%s/holder' '%s/.pipes'\n" "$here" "$UNDORC_PLACE" \
-            > "$holder/run" &&
+        printf "#!/bin/sh\nexec '%s/holder' '%s/.pipes'\n" "$here" "$UNDORC_PLACE" > "$holder/run" &&
         chmod 755 "$holder/run" &&
         ln -sfn "$holder" "$UNDORC_SCAN/undorc-pipes"
 }

@@ -1,10 +1,61 @@
 # shellcheck shell=sh
-# Functions that wait for something, that end processes, and that ask what a session is.
+# Functions that run undorc, wait for something, end processes, and compare the session with the
+# supervisor.
 
-# matches DB: whether the session is one of this database
-matches() {
-    other=$("$UNDORC_PROGRAM" live -b "$1" -l "$UNDORC_LIVE" 2>&1 > /dev/null) || return
-    case $other in *'is not the database of this session'*) return 1 ;; esac
+# become_undorc COMMAND OPTION..: runs it with the files of this machine in place of this script,
+# so that signals reach it. orderly stands above this directory. Scripts and controllers get the same
+# environment, whoever calls. `trial` is another file of a session.
+become_undorc() {
+    if ! UNDORC_PROGRAM=$(command -v "$UNDORC_PROGRAM"); then
+        echo 'manage: UNDORC_PROGRAM names no program' >&2
+        exit 111
+    fi
+    command=$1
+    shift
+    set -- "PATH=$UNDORC_PATH" "$here/../orderly" "$command" -b "$UNDORC_DB" -l "${trial:-$UNDORC_LIVE}" -W -v \
+        -c "$here/controller" -r "$here/oneshot" -T "$UNDORC_USUAL" -w "$UNDORC_WORKERS" "$@"
+    for variable in $settings UNDORC_FORCE $UNDORC_PASS; do
+        case $variable in *[!A-Za-z0-9_]* | [0-9]*) continue ;; esac
+        eval "[ -z \"\${$variable+is}\" ] || set -- \"$variable=\$$variable\" \"\$@\""
+    done
+    # The shells of Linux have it.
+    # shellcheck disable=SC3045
+    ulimit -n "$UNDORC_FILES" 2> /dev/null || true
+    exec env -i "$@"
+}
+
+# longruns_of DB: prints the names of its longruns
+longruns_of() {
+    "$UNDORC_PROGRAM" db -b "$1" list longruns
+}
+
+# where: prints where each service stands
+where() {
+    "$UNDORC_PROGRAM" status -b "$UNDORC_DB" -l "$UNDORC_LIVE"
+}
+
+# live_names: prints the names of all that is up
+live_names() {
+    live=$(where) && printf '%s\n' "$live" | sed -n 's/ up$//p'
+}
+
+# compare [NAME..]: prints a line for each longrun that the supervisor has in another state than the
+# session. The first line of a name below is the session's word, the second one the supervisor's.
+compare() {
+    stand=$(where) && says=$("$here/says" "$@") || return
+    printf '%s\n' "$stand" "$says" | awk '
+        NF == 0 { next }
+        !(($1 "") in word) {
+            word[$1 ""] = $2 == "up" ? "live" : "not live"
+            next
+        }
+        { state = substr($0, length($1) + 2) }
+        state != (word[$1 ""] == "live" ? "up wanted" : "down") { print $1 ": " word[$1 ""] ", but " state }'
+}
+
+# is_in NAMES NAME: whether NAME is one of the lines NAMES
+is_in() {
+    printf '%s\n' "$1" | grep -qxF -e "$2"
 }
 
 # attend COMMAND..: runs a command; a signal is handled at once, and not after the command
@@ -19,17 +70,28 @@ wait_for() {
     while status=0 && wait "$1" || status=$?; kill -0 "$1" 2> /dev/null; do :; done
 }
 
-# compare [NAME..]: prints a line for each longrun that the supervisor has in another state than the session
-compare() {
-    live=$("$here/manage" live) && says=$("$here/says" "$@") || return
-    printf '%s\n' "$live" "$says" | awk '
-        NR == 1 { for (at = 2; at <= NF; at++) is_live[$at ""] }
-        NR <= 2 || NF == 0 { next }
-        {
-            word = ($1 "") in is_live ? "live" : "not live"
-            state = substr($0, length($1) + 2)
-        }
-        state != (word == "live" ? "up wanted" : "down") { print $1 ": " word ", but " state }'
+# call_off: what a signal does to a command of `run`: it is called off, or not started
+call_off() {
+    is_off=yes
+    [ -z "$child" ] || kill -TERM "$child" 2> /dev/null || true
+}
+
+# catch_signals: makes HUP, INT and TERM call off what `run` runs
+catch_signals() {
+    child='' is_off=''
+    trap call_off HUP INT TERM
+}
+
+# run COMMAND..: runs a command that TERM calls off, and leaves its status in `status`
+run() {
+    "$@" &
+    child=$!
+    # A signal may have come just before that.
+    [ -z "$is_off" ] || call_off
+    wait_for "$child"
+    child=''
+    # TERM came before undorc had begun.
+    [ "$is_off.$status" != yes.143 ] || status=2
 }
 
 # clock: sets `now` to hundredths of a second, by a clock that does not jump
@@ -50,6 +112,22 @@ within() {
     done
 }
 
+# is_over PID: whether this process is no script or controller of UNDORC_NAME
+is_over() {
+    ! tr '\0' '\n' < "/proc/$1/environ" | grep -qxF "UNDORC_NAME=$UNDORC_NAME"
+}
+
+# claim: makes this process the script or controller of UNDORC_NAME. One that a killed command has left
+# is ended first. Each has a process group of its own if it has a timeout.
+claim() {
+    claims=$UNDORC_PLACE/.claims/$UNDORC_NAME
+    if read -r left < "$claims" && ! is_over "$left"; then
+        kill -TERM "-$left" || kill -TERM "$left"
+        within 60 is_over "$left" || kill -KILL "-$left"
+    fi
+    echo $$ > "$claims"
+} 2> /dev/null
+
 # is_down DIR: whether it is down, and not wanted up
 is_down() {
     [ "$(state_of "$1")" = down ]
@@ -67,6 +145,18 @@ want_down() {
     : > "$1/down"
     supervised && bring_down "$1" 2000
     within 20 is_down "$1"
+}
+
+# force_down DIR MS: brings it down; sends KILL to it, its process group and its descendants if it is
+# not down after MS. Not by the supervisor: runsv takes a daemon that has just ended for one that is
+# down then, and never runs its finish.
+force_down() {
+    bring_down "$1" "$2" && return
+    echo "down $name: killed" >&2
+    leader=$(pid_of "$1")
+    family=$(stop_family "$leader")
+    kill_family "$family ${family:+-$leader}"
+    bring_down "$1" 2000
 }
 
 # stop_family PID..: sends STOP to them and all their descendants, which /proc shows on Linux, and
@@ -92,5 +182,7 @@ holds_nothing() {
 kill_family() {
     # Process ids are separated by newlines.
     # shellcheck disable=SC2086
-    { kill -KILL $1 2> /dev/null && within 10 holds_nothing $1; } || true
+    kill -KILL $1 2> /dev/null || true
+    # shellcheck disable=SC2086
+    within 10 holds_nothing $1 || true
 }

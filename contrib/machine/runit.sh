@@ -122,16 +122,6 @@ want_up() {
     supervised && sv up "$1" && within 15 is_up "$1"
 }
 
-# force_down DIR MS: brings it down; sends KILL to it and its descendants if it is not down after MS
-force_down() {
-    bring_down "$1" "$2" && return
-    echo "down $name: killed" >&2
-    # Not by `sv kill`: runsv takes a daemon that has just ended for one that is down then, and never
-    # runs its finish.
-    kill_family "$(stop_family "$(pid_of "$1")")"
-    fall "$1" 2000
-}
-
 # hang_up DIR: sends the daemon HUP
 hang_up() {
     sv hup "$1"

@@ -87,18 +87,6 @@ want_up() {
     supervised && s6-svc -U "$1"
 }
 
-# force_down DIR MS: brings it down; sends KILL to it and its descendants if it is not down after MS
-force_down() {
-    bring_down "$1" "$2" && return
-    echo "down $name: killed" >&2
-    all=$(stop_family "$(pid_of "$1")")
-    # To the whole process group, where this version of s6 can.
-    attend s6-svc -wD -T 2000 -K "$1" 2> /dev/null || attend s6-svc -wD -T 2000 -k "$1"
-    ended=$?
-    kill_family "$all"
-    return "$ended"
-}
-
 # hang_up DIR: sends the daemon HUP
 hang_up() {
     s6-svc -h "$1"

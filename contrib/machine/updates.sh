@@ -70,11 +70,6 @@ own_copy() {
         relink "$1"
 }
 
-# is_in NAMES NAME: whether NAME is one of the lines NAMES
-is_in() {
-    printf '%s\n' "$1" | grep -qxF -e "$2"
-}
-
 # for_pairs COMMAND..: runs it with each old name of `pairs` and the new one, until it fails
 for_pairs() {
     while read -r old name; do
@@ -149,7 +144,8 @@ passes() {
     if cmp -s "$UNDORC_PLACE/.sets/$number/.db" "$UNDORC_PLACE/.sets/new/.db"; then
         [ -n "$is_cut" ]
     else
-        matches "$UNDORC_PLACE/.sets/new/.db"
+        note=$("$UNDORC_PROGRAM" status -b "$UNDORC_PLACE/.sets/new/.db" -l "$UNDORC_LIVE" 2>&1) &&
+            [ "${note#*is not the database of this session}" = "$note" ]
     fi
 }
 
