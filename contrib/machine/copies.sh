@@ -223,6 +223,30 @@ renew_copy() {
     [ -z "$relinks" ] || relink "$1"
 }
 
+# add_copies NAME..: puts those that the set has under the supervisor. Supervisors start side by side; ten
+# seconds are enough for all. Fails if one has none; says which.
+add_copies() {
+    lacking='' turn=0
+    for name; do
+        if [ ! -d "$set/$name" ] || [ -d "$UNDORC_SCAN/$name" ]; then continue; fi
+        add_copy "$name" || lacking=yes
+    done
+    (hold_pipes) || lacking=yes
+    rescan
+    for name; do
+        until [ ! -d "$set/$name" ] || has_supervisor "$UNDORC_SCAN/$name"; do
+            turn=$((turn + 1))
+            if [ "$turn" -gt 100 ]; then
+                echo "init: $name: not supervised" >&2
+                lacking=yes
+                break
+            fi
+            sleep 0.1
+        done
+    done
+    [ -z "$lacking" ]
+}
+
 # remove_copy NAME: ends the supervisor and removes the copy
 remove_copy() {
     remove_supervisor "$1" && rm -rf "${UNDORC_PLACE:?}/$1" "$UNDORC_PLACE/.pipes/$1"

@@ -40,9 +40,10 @@ live_names() {
 }
 
 # compare [NAME..]: prints a line for each longrun that the supervisor has in another state than the
-# session. The first line of a name below is the session's word, the second one the supervisor's.
+# session; `live` says where a command was cut short. The first line of a name below is the session's
+# word, the second one the supervisor's.
 compare() {
-    stand=$(where) && says=$("$here/says" "$@") || return
+    "$here/manage" live > /dev/null && stand=$(where) && says=$("$here/says" "$@") || return
     printf '%s\n' "$stand" "$says" | awk '
         NF == 0 { next }
         !(($1 "") in word) {

@@ -4,10 +4,8 @@
 # shellcheck source=processes.sh
 . "$here/processes.sh"
 
-# is_installed: whether the tools are there
-is_installed() {
-    command -v sv > /dev/null && command -v runsv > /dev/null
-}
+# One of its tools.
+tool=runsv
 
 # find_scanner: waits for the directory of runsvdir, which can't be asked itself; fails after 5 s
 find_scanner() {

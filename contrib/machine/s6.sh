@@ -4,10 +4,8 @@
 # shellcheck source=processes.sh
 . "$here/processes.sh"
 
-# is_installed: whether the tools are there
-is_installed() {
-    command -v s6-svc > /dev/null && command -v s6-svscanctl > /dev/null
-}
+# One of its tools.
+tool=s6-svscanctl
 
 # find_scanner: waits for s6-svscan, which may have been started a moment ago; fails after 5 s
 find_scanner() {

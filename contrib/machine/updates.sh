@@ -212,15 +212,9 @@ supervise() {
             *) remove_copy "$name" || echo "manage: $name: its supervisor does not end" >&2 ;;
         esac
     done
-    for directory in "$set"/*; do
-        name=${directory##*/}
-        [ ! -d "$directory" ] || [ -e "$UNDORC_PLACE/$name" ] || add_copy "$name" || return
-    done
-    rescan
-    for directory in "$set"/*; do
-        [ ! -d "$directory" ] || within 100 has_supervisor "$UNDORC_SCAN/${directory##*/}" || true
-    done 2> /dev/null
-    hold_pipes
+    # Names are separated by newlines.
+    # shellcheck disable=SC2046
+    add_copies $(longruns_of "$set/.db") || true
 }
 
 # settle: what is left to do when an update, an undo or a redo is over, also one that was killed

@@ -73,6 +73,13 @@ chmod -x tree/web/run
 : > tree/web/check
 finds 'tree/web/run: no right to run\ntree/web/finish: no right to run\ntree/web/check: no right to run\n'
 
+# The interpreter.
+printf '#!/nowhere/sh -e\n' | tee tree/web/run > tree/web/check
+chmod +x tree/web/check
+printf '#! /bin/sh -e\n' > tree/web/finish
+chmod +x tree/web/finish
+finds 'tree/web/run: no interpreter\ntree/web/check: no interpreter\n'
+
 # Windows line ends, in texts and in the names of folders of names.
 printf 'mkdir q\r\n' > tree/disk/up
 printf 'disk\r\n' > tree/web/dependencies
