@@ -177,6 +177,11 @@ for _ in $(seq "$rounds"); do
 done
 stop
 for _ in $(seq "$rounds"); do boots; done
+if grep -q __asan "$program"; then
+    echo 'The program was compiled with nothing proved and with checks of its memory, so each of its calls takes'
+    echo 'several times as long as one of a proved program.'
+    echo
+fi
 printf '| %s | %s | %s |\n' '' 'Up, s' 'Down, s' --- --- ---
 awk -F ';' '
     !($1 in seen) { seen[$1]; names[++count] = $1 }

@@ -30,6 +30,20 @@ plain up
 status 0' "$(does 'machine/manage status')"
 does 'machine/manage change -d once' > "$room/said"
 
+# Under s6 a finish may count the deaths.
+if [ "$supervisor" = s6 ]; then
+    script 'rm /run/over; echo 2 > services/once/max-death-tally
+        printf "#!/bin/sh\nexec s6-permafailon 60 2 1 true\n" > services/once/finish; machine/init'
+    step 'one that gives up after two deaths comes up first' 'raised once
+ok
+status 0' 'machine/manage change once'
+    script ': > /run/over'
+    within 20 'machine/says | grep -q "^once down$"' || true
+    is 'it counts as failed, too' 'once failed
+status 3' "$(does 'machine/manage status once')"
+    does 'machine/manage change -d once' > "$room/said"
+fi
+
 script 'echo "# edited" >> services/plain/run'
 is 'status names an edited source' 'plain: its source has changed since init was called' \
     "$(script 'machine/manage status plain 2>&1 > /run/x')"
@@ -46,4 +60,11 @@ raised plain
 ok
 status 0' 'machine/init; machine/manage restart plain'
 is 'then nothing is named' 'plain up' "$(script 'machine/manage status plain 2>&1')"
+
+# A longrun of the database without a source is named, and nothing waits for it.
+begun=$(date +%s)
+step 'init without the source of a new longrun' 'status 2' 'cp -r services/other services/lost
+    undorc compile -o db2 services; rm -r services/lost; UNDORC_DB=$PWD/db2 machine/init'
+is 'it says so' 'lost: no such directory in /etc/undorc/services' "$(told)"
+is 'it is not waited for' yes "$([ $(($(date +%s) - begun)) -gt 9 ] || echo yes)"
 stop
