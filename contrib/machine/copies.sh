@@ -11,6 +11,7 @@
 #   .set           a link to the set of the present database
 #   .pipes/NAME    the fifo that the consumer NAME reads
 #   .holder        the service directory of the process that holds the fifos open
+#   .claims/NAME   the process id of the last script or controller of NAME
 #
 # updates.sh describes the other files.
 
