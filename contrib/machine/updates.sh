@@ -220,9 +220,13 @@ supervise() {
 # settle: what is left to do when an update, an undo or a redo is over, also one that was killed
 settle() {
     [ -e "$UNDORC_PLACE/.from" ] || return 0
-    { read -r number was process to _ && pairs=$(cat); } < "$UNDORC_PLACE/.from"
+    { read -r number was process to next && pairs=$(cat); } < "$UNDORC_PLACE/.from"
     if [ "$process" != $$ ] && grep -qs -e manage -e machine "/proc/$process/cmdline"; then return 0; fi
     if passes; then
+        case $process.$to in
+            $$.*) ;;
+            *.new) echo "${0##*/}: an update to $next was cut short" >&2 || true ;;
+        esac
         install_set && for_pairs pass_name || return 111
     else
         set=$UNDORC_PLACE/.set

@@ -1,5 +1,9 @@
 # shellcheck shell=sh
-# Functions of the first processes of a machine.
+# What the first processes of a machine share. Set before: `first`, the directory of the script below
+# this one, or `here`.
+export PATH=/usr/local/sbin:/usr/local/bin:/usr/sbin:/usr/bin:/sbin:/bin
+umask 022
+: "${here:=$(realpath "$first/../..")}"
 
 console=/dev/null
 if [ -c /dev/console ] && (: > /dev/console) 2> /dev/null; then console=/dev/console; fi
@@ -30,15 +34,6 @@ begins() {
     UNDORC_SUPERVISOR=$1
     # shellcheck source=../settings
     . "$here/settings"
-}
-
-# forget_settings: gives the environment back that was there before. What scans runs for long, and each
-# script below it reads the settings of its own moment.
-forget_settings() {
-    # The names are separated by spaces.
-    # shellcheck disable=SC2086
-    unset $settings
-    eval "$given"
 }
 
 # becomes COMMAND..: becomes the scanner
