@@ -7,14 +7,10 @@
 # One of its tools.
 tool=runsv
 
-# find_scanner: waits for the directory of runsvdir, which can't be asked itself; fails after 5 s
-find_scanner() {
-    within 50 test -d "$UNDORC_SCAN"
-}
-
-# rescan: runsvdir looks for new service directories every five seconds
+# rescan: runsvdir looks for new service directories every five seconds, and can't be asked; fails if its
+# directory is not there
 rescan() {
-    :
+    [ -d "$UNDORC_SCAN" ]
 }
 
 # has_supervisor DIR

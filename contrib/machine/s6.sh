@@ -7,12 +7,7 @@
 # One of its tools.
 tool=s6-svscanctl
 
-# find_scanner: waits for s6-svscan, which may have been started a moment ago; fails after 5 s
-find_scanner() {
-    within 50 s6-svscanctl -a "$UNDORC_SCAN" 2> /dev/null
-}
-
-# rescan: makes the scanner look for new service directories
+# rescan: makes the scanner look for new service directories; fails if there is none
 rescan() {
     s6-svscanctl -a "$UNDORC_SCAN"
 }

@@ -42,11 +42,6 @@ stand() {
         }' "${1:-/dev/null}")"
 }
 
-# is_in_set NAME: whether the set has a directory of this name
-is_in_set() {
-    [ -d "$set/$1" ]
-}
-
 # is_lent NAME: whether a renamed longrun has the directory of this name
 is_lent() {
     for link in "$UNDORC_PLACE"/*; do
@@ -83,7 +78,7 @@ END
 check_pair() {
     if is_in "$1" "$2"; then
         echo "manage: $2 can't become $3, since the new database has another longrun $2" >&2
-    elif is_in_set "$3"; then
+    elif [ -d "$set/$3" ]; then
         echo "manage: $2 can't become $3, which is another longrun of the old database" >&2
     else
         return 0
@@ -201,12 +196,12 @@ own_copies() {
 supervise() {
     for copy in "$UNDORC_PLACE"/*; do
         name=${copy##*/}
-        if [ -L "$copy" ] && ! is_in_set "$name"; then drop_link "$name"; fi
+        if [ -L "$copy" ] && [ ! -d "$set/$name" ]; then drop_link "$name"; fi
     done
     own_copies || echo 'manage: a renamed longrun has no directory of its own' >&2
     for copy in "$UNDORC_PLACE"/*; do
         name=${copy##*/}
-        if [ ! -d "$copy" ] || is_in_set "$name" || is_lent "$name"; then continue; fi
+        if [ ! -d "$copy" ] || [ -d "$set/$name" ] || is_lent "$name"; then continue; fi
         case $(state_of "$UNDORC_SCAN/$name") in
             up*) echo "manage: $name: up, though the database lacks it" >&2 ;;
             *) remove_copy "$name" || echo "manage: $name: its supervisor does not end" >&2 ;;
