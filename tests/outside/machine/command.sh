@@ -21,8 +21,8 @@ is 'each of them has options of its own to describe' '' "$(script 'while read -r
 is 'each of its own commands is in its page' '' "$(script 'cat /run/own' | while read -r name; do
     grep -q "^\.It Cm .*\\b$name\\b" "$contrib/../man/undorc-machine.1" || echo "$name"
 done)"
-step 'what it does not know is refused' 'status 100' 'undorc-machine start d'
-is 'it says so' 'undorc-machine: no such command: start; -h lists them' "$(told)"
+step 'what it does not know is refused' 'status 100' 'undorc-machine raise d'
+is 'it says so' 'undorc-machine: no such command: raise; -h lists them' "$(told)"
 step 'no command is refused' 'status 100' undorc-machine
 step 'words are passed on to journal' 'at 1 of 2
 1
@@ -39,6 +39,12 @@ status 0' 'undorc-machine plan -d d'
 step 'a session' 'live d o
 ok
 status 0' 'echo live | undorc-machine session'
+step 'stop lowers' 'lowered d
+ok
+status 0' 'undorc-machine stop d'
+step 'start raises' 'raised d
+ok
+status 0' 'undorc-machine start d'
 step 'a command that is not under way is not called off' 'status 1' 'undorc-machine cancel'
 step 'where the supervisor stands' 'd up wanted
 status 0' 'undorc-machine says'
