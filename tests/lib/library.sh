@@ -32,7 +32,7 @@ with() {
 # begin with two spaces; and without what root is told of links.
 firsts() {
     sed -e '/ is a link out of its source, to /d' -e '/^  nothing is named /d' -e '/^  options stand /d' -e '/^  no change is /d' -e '/^  -p goes /d' \
-        -e '/^  an\{0,1\} [a-z]* has this name[,;] /d' -e '/^  no bundle has this name; /d' \
+        -e '/^  an\{0,1\} [a-z]* has this name[,;] /d' -e '/^  no bundle has this name/d' \
         -e '/^undorc: /,$ { /^  /d; }' "$1"
 }
 
