@@ -477,7 +477,7 @@ pub(crate) static ROWS: [Row; 161] = [
     ),
     ("invocation_of seal", Asked("seal -b base -l live")),
     ("invocation_of status", Asked("status -b base -l live web")),
-    ("invocation_of stop", Asked("stop -l live")),
+    ("invocation_of cancel", Asked("cancel -l live")),
     ("invocation_of version", Asked("version")),
     ("write_db, and a log; after up", Begins),
 ];
