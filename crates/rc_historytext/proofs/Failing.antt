@@ -19,7 +19,8 @@ use Rattle.rc_historytext.specs.Faults.{IsHistoryFault}
 use Rattle.rc_historytext.specs.States.{IsSession, Cuts, cut_behind}
 use Rattle.rc_historytext.specs.Present.{IsAt, IsPresent}
 use Rattle.rc_historytext.specs.Updating.{IsLeft, rename_of, renames_of}
-use Rattle.rc_historytext.specs.CallFaults.{IsEnterFault, IsKeepFault, IsRenamesFault}
+use Rattle.rc_historytext.specs.Keeping.{StandsThere}
+use Rattle.rc_historytext.specs.CallFaults.{IsEnterFault, IsOnceFault, IsPutFault, IsRenamesFault}
 use Rattle.rc_historytext.specs.CallFaults.{IsSessionFault, IsStandingFault, IsText}
 use Rattle.rc_historytext.proofs.OneFault.{not_refused}
 use Rattle.rc_historytext.proofs.Presents.{some_once}
@@ -61,10 +62,15 @@ pub stand_memory : (bytes : List ℕ) (fault : HistoryFault) → fault ≡ Memor
 stand_memory bytes fault is =
     subst (λ (f : HistoryFault). IsStandingFault bytes f) (sym is) (inl tt)
 
-pub keep_memory : (bytes session : List ℕ) (fault : HistoryFault) → fault ≡ Memory
-    → IsKeepFault bytes session fault
-keep_memory bytes session fault is =
-    subst (λ (f : HistoryFault). IsKeepFault bytes session f) (sym is) (inl (inl tt))
+pub put_memory : (bytes session : List ℕ) (fault : HistoryFault) → fault ≡ Memory
+    → IsPutFault bytes session fault
+put_memory bytes session fault is =
+    subst (λ (f : HistoryFault). IsPutFault bytes session f) (sym is) (inl (inl tt))
+
+pub once_memory : (bytes session : List ℕ) (fault : HistoryFault) → fault ≡ Memory
+    → IsOnceFault bytes session fault
+once_memory bytes session fault is =
+    subst (λ (f : HistoryFault). IsOnceFault bytes session f) (sym is) (inl tt)
 
 pub text_memory : (bytes : List ℕ) (fault : HistoryFault) → fault ≡ Memory
     → IsHistoryFault bytes fault
@@ -94,12 +100,12 @@ at_place_of t g h session fault one other refused =
     (some_once g h (sym one ∙ other)) refused
 
 -- it is, or the session that is to be put there
-pub keep_either : (bytes session : List ℕ) (t : HistoryText) (g : GenerationText)
+pub put_either : (bytes session : List ℕ) (t : HistoryText) (g : GenerationText)
     (fault : HistoryFault) → IsAt bytes t g
     → IsSessionFault g.session fault ⊎ IsSessionFault session fault
-    → IsKeepFault bytes session fault
-keep_either bytes session t g fault at (inl old) = inl (stand_present bytes t g fault at old)
-keep_either bytes session t g fault at (inr new) = inr ((t, at.is, at.spelled), new)
+    → IsPutFault bytes session fault
+put_either bytes session t g fault at (inl old) = inl (stand_present bytes t g fault at old)
+put_either bytes session t g fault at (inr new) = inr ((t, at.is, at.spelled), new)
 
 -- a session is refused only if memory runs out
 session_told : (bytes : List ℕ) (s : LiveText) (fault : HistoryFault) → IsSession bytes s
@@ -109,11 +115,18 @@ session_told bytes s Version is refused = absurd refused
 session_told bytes s (Bad offset) is refused = absurd (refused.1 s is)
 
 -- so a session that was cut is not refused
-pub keep_cut : (bytes session cut : List ℕ) (fault : HistoryFault) → Cuts session cut
-    → IsKeepFault bytes cut fault → IsKeepFault bytes session fault
-keep_cut bytes session cut fault cuts (inl refused) = inl refused
-keep_cut bytes session cut fault (s, is, left) (inr (text, refused)) =
-    keep_memory bytes session fault (session_told cut (cut_behind s) fault left refused)
+put_cut : (bytes session cut : List ℕ) (fault : HistoryFault) → Cuts session cut
+    → IsPutFault bytes cut fault → IsPutFault bytes session fault
+put_cut bytes session cut fault cuts (inl refused) = inl refused
+put_cut bytes session cut fault (s, is, left) (inr (text, refused)) =
+    put_memory bytes session fault (session_told cut (cut_behind s) fault left refused)
+
+pub once_cut : (bytes session cut : List ℕ) (fault : HistoryFault) → Cuts session cut
+    → (StandsThere bytes session → ⊥) → IsOnceFault bytes cut fault
+    → IsOnceFault bytes session fault
+once_cut bytes session cut fault cuts other (inl refused) = inl refused
+once_cut bytes session cut fault cuts other (inr (another, refused)) =
+    inr (other, put_cut bytes session cut fault cuts refused)
 
 -- nor is a history that was left
 pub enter_refused : (bytes left : List ℕ) (list : List Conversion) (fault : HistoryFault)

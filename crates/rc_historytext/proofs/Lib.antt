@@ -48,3 +48,6 @@ mod TravelledLines
 mod TravelledSteps
 -- Where an undo and a redo stop, and several steps in a row.
 mod TravelledStops
+-- What an undo or a redo leaves that does not go well: whole steps, and then what remains of one
+-- more.
+mod HaltedSteps

@@ -24,7 +24,8 @@ use Rattle.rc_historytext.specs.declared.keeping.Keeping.TheVariants.{Way}
 use Rattle.rc_historytext.specs.Text.{GenerationText, HistoryText, IsHistoryText, history_text}
 use Rattle.rc_historytext.specs.Moves.{crossed_back, crossed_on, with_session, with_session_at}
 use Rattle.rc_historytext.specs.States.{IsSession, newest_state, oldest_state}
-use Rattle.rc_historytext.specs.Present.{IsAt, StandingText, StandsAt, passes, standing}
+use Rattle.rc_historytext.specs.Present.{IsAt, IsPresent, StandingText, StandsAt, passes}
+use Rattle.rc_historytext.specs.Present.{standing}
 use Rattle.rc_historytext.specs.Marking.{AreMarks, is_alone}
 use Rattle.rc_historytext.specs.Keeping.{IsPut, IsPutOnce, left_by}
 use Rattle.rc_historytext.specs.Updating.{crossed}
@@ -167,38 +168,41 @@ module _ (laws : Laws) (h : History) (is : IsHistory h) (marks : List Bool) (byt
       absurd (other (laws.line h.present.base present_text.session h.present.line new
       present_is.database present_is.line of present_told.session (inl session)))
 
+  -- texts of the present generation are those of its database and of its line
+  pub base_is : (base : Database) (session : List ℕ)
+      → IsPresent bytes (database_text base) session → IsDatabase base → IsWritable base
+      → base ≡ h.present.base
+  base_is base session there is_database writable =
+      let Can : Generation → Type 0 = λ g. IsWritable g.base in
+      let same = (place_once bytes there.0 gives.t there.1 present_text there.2 present_there).1 in
+      laws.database base h.present.base [] [] is_database writable present_is.database
+      (middle_of Can h.earlier h.present h.later gives.writable)
+      (ap (λ (text : List ℕ). text ++ [])
+      (sym there.3 ∙ ap (λ (x : GenerationText). x.database) same ∙ present_told.database))
+
+  pub line_is : (base : Database) (session : List ℕ) (line : Line)
+      → IsPresent bytes (database_text base) session → IsDatabase base → IsWritable base
+      → IsLineOf base line → Spells base session line → line ≡ h.present.line
+  line_is base session line there is_database writable of begins =
+      let same = (place_once bytes there.0 gives.t there.1 present_text there.2 present_there).1 in
+      let base_same = base_is base session there is_database writable in
+      let session_same : session ≡ present_text.session =
+      sym there.4 ∙ ap (λ (x : GenerationText). x.session) same in
+      laws.line h.present.base session line h.present.line present_is.database
+      (subst (λ (d : Database). IsLineOf d line) base_same of) present_is.line
+      (subst (λ (d : Database). Spells d session line) base_same begins)
+      (subst (λ (text : List ℕ). Spells h.present.base text h.present.line) (sym session_same)
+      present_told.session)
+
   -- a run inside is one in the present generation of that history
   module _ (on : Bool) (next : List ℕ) (run : RunsInside on bytes next) where
-    run_present : GenerationText
-    run_present = run.there.1
-
-    run_same : run_present ≡ present_text
-    unfolding run_present
-    run_same =
-        (place_once bytes run.there.0 gives.t run.there.1 present_text run.there.2
-        present_there).1
-
     run_base : run.base ≡ h.present.base
-    unfolding run_present
-    run_base =
-        let Can : Generation → Type 0 = λ g. IsWritable g.base in
-        laws.database run.base h.present.base [] [] run.is_database run.writable
-        present_is.database (middle_of Can h.earlier h.present h.later gives.writable)
-        (ap (λ (text : List ℕ). text ++ [])
-        (sym run.there.3 ∙ ap (λ (x : GenerationText). x.database) run_same
-        ∙ present_told.database))
-
-    run_session : run.session ≡ present_text.session
-    unfolding run_present
-    run_session = sym run.there.4 ∙ ap (λ (x : GenerationText). x.session) run_same
+    run_base = base_is run.base run.session run.there run.is_database run.writable
 
     run_line : run.line ≡ h.present.line
     run_line =
-        laws.line h.present.base run.session run.line h.present.line present_is.database
-        (subst (λ (d : Database). IsLineOf d run.line) run_base run.is_line) present_is.line
-        (subst (λ (d : Database). Spells d run.session run.line) run_base run.begins)
-        (subst (λ (text : List ℕ). Spells h.present.base text h.present.line) (sym run_session)
-        present_told.session)
+        line_is run.base run.session run.line run.there run.is_database run.writable run.is_line
+        run.begins
 
     pub run_next : StandsNext on h.present.line run.new
     run_next = subst (λ (l : Line). StandsNext on l run.new) run_line run.arrives

@@ -82,7 +82,7 @@ module _ (laws : Laws) (h : History) (is : IsHistory h) (marks : List Bool) (byt
 
 -- several steps, each of which goes on: what is undone from where they lead is undone from their
 -- beginning
-passes_back : (laws : Laws) (n : ℕ) (h : History) (is : IsHistory h) (marks : List Bool)
+pub passes_back : (laws : Laws) (n : ℕ) (h : History) (is : IsHistory h) (marks : List Bool)
     (bytes next : List ℕ) → GivesHistory bytes h marks → PassesTo n false bytes next
     → (new : History) × GivesHistory next new marks × IsHistory new
     × ((old : History) → Undoes marks new old → Undoes marks h old)
@@ -123,7 +123,7 @@ travels_back laws bytes next h marks is gives (n, between, rest, step, ends) =
     )
 
 -- the same forwards
-passes_on : (laws : Laws) (n : ℕ) (h : History) (is : IsHistory h) (marks : List Bool)
+pub passes_on : (laws : Laws) (n : ℕ) (h : History) (is : IsHistory h) (marks : List Bool)
     (bytes next : List ℕ) → GivesHistory bytes h marks → PassesTo n true bytes next
     → (new : History) × GivesHistory next new marks × IsHistory new
     × ((old : History) → Redoes marks new old → Redoes marks h old)

@@ -4,6 +4,8 @@ use Rattle.rc_update.specs.Conversions.{Conversion}
 use Rattle.rc_livetext.specs.Text.{LiveText}
 use Rattle.rc_historytext.specs.declared.fault.HistoryFault.{HistoryFault}
 use Rattle.rc_historytext.specs.declared.fault.HistoryFault.TheVariants.{Bad, Version, Memory}
+use Rattle.rc_historytext.specs.declared.keeping.Keeping.{Keeping}
+use Rattle.rc_historytext.specs.declared.keeping.Keeping.TheVariants.{Seal}
 use Rattle.rc_historytext.specs.Text.{HistoryText, IsHistoryText, IsRename, history_text}
 use Rattle.rc_historytext.specs.Faults.{IsHistoryFault}
 use Rattle.rc_historytext.specs.States.{IsSession}
@@ -31,10 +33,26 @@ IsStandingFault bytes fault =
     IsHistoryFault bytes fault
     ⊎ ((session : List ℕ) × StandsThere bytes session × IsSessionFault session fault)
 
--- the same, or the bytes are a history, and the session that is to be put there is refused
-abbrev pub IsKeepFault : (bytes session : List ℕ) → HistoryFault → Type 0
-IsKeepFault bytes session fault =
+-- the same, or the bytes are a history, and the session that is put there is refused
+abbrev pub IsPutFault : (bytes session : List ℕ) → HistoryFault → Type 0
+IsPutFault bytes session fault =
     IsStandingFault bytes fault ⊎ (IsText bytes × IsSessionFault session fault)
+
+-- a command puts a session into a history unless it stands there already, and a seal in any case
+abbrev pub PutsThere : Keeping → (bytes session : List ℕ) → Type 0
+PutsThere Seal bytes session = Unit {0}
+PutsThere other bytes session = StandsThere bytes session → ⊥
+
+-- the bytes are refused as the text of a history; or a session is put there, and that one or the
+-- one that stands there is refused. So of a session that stands there already nothing is refused
+abbrev pub IsKeepFault : Keeping → (bytes session : List ℕ) → HistoryFault → Type 0
+IsKeepFault keeping bytes session fault = IsHistoryFault bytes fault
+    ⊎ (PutsThere keeping bytes session × IsPutFault bytes session fault)
+
+-- the same of a command that puts a session there only once
+abbrev pub IsOnceFault : (bytes session : List ℕ) → HistoryFault → Type 0
+IsOnceFault bytes session fault = IsHistoryFault bytes fault
+    ⊎ ((StandsThere bytes session → ⊥) × IsPutFault bytes session fault)
 
 -- a rename of conversions is not of names, which is reported at offset 0; out of memory may come at
 -- any place

@@ -18,6 +18,8 @@ pub mod Present
 pub mod Marking
 -- What a command makes of the text of a history.
 pub mod Keeping
+-- A history in which a session is kept.
+pub mod Framing
 -- What an update makes of the text of a history, step by step.
 pub mod Updating
 -- Why the calls that say where a history stands, or that make its text, fail.
@@ -26,6 +28,8 @@ pub mod CallFaults
 pub mod Telling
 -- The steps of an undo or a redo that leads across borders.
 pub mod Travelling
+-- What an undo or a redo leaves of the text of a history that does not go well.
+pub mod Halting
 -- Which history the bytes of a text give, with a mark for each of its places.
 pub mod Places
 -- Which line is due where, for reading alone: that it is what the texts say is a lemma.

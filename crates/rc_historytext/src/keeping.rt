@@ -9,8 +9,8 @@ ghost use Rattle.rc_historytext.specs.Keeping.{IsKept, IsKeptStep, IsPut, IsPutO
 ghost use Rattle.rc_historytext.specs.Keeping.{PutsInto, StandsThere};
 ghost use Rattle.rc_historytext.specs.Keeping.{cut_earlier, cut_later, left_by};
 ghost use Rattle.rc_historytext.specs.Faults.{IsHistoryFault};
-ghost use Rattle.rc_historytext.specs.CallFaults.{IsKeepFault, IsOutOfMemory, IsSessionFault};
-ghost use Rattle.rc_historytext.specs.CallFaults.{IsText};
+ghost use Rattle.rc_historytext.specs.CallFaults.{IsKeepFault, IsOnceFault, IsOutOfMemory};
+ghost use Rattle.rc_historytext.specs.CallFaults.{IsPutFault, IsSessionFault, IsText};
 
 use crate::fault::HistoryFault;
 use crate::forms::HistoryForm;
@@ -44,7 +44,7 @@ pub fn keep_session(
     keeping: Keeping,
 ) -> Result<Vec<u8>, HistoryFault>
     ensures ok { IfOk result (λ text. IsKept keeping history.now session.now text.items) }
-    ensures fault { IfErr result (IsKeepFault history.now session.now) }
+    ensures fault { IfErr result (IsKeepFault keeping history.now session.now) }
 {
     match keeping {
         Keeping::Command => put_once(alloc, history, session, Keeping::Command),
@@ -58,7 +58,7 @@ pub fn keep_session(
 // A step cuts off the states after the current one, unless it has moved nothing yet.
 fn keep_step(alloc: Global, history: &[u8], session: &[u8]) -> Result<Vec<u8>, HistoryFault>
     ensures ok { IfOk result (λ text. IsKeptStep history.now session.now text.items) }
-    ensures fault { IfErr result (IsKeepFault history.now session.now) }
+    ensures fault { IfErr result (IsOnceFault history.now session.now) }
 {
     if stands_there(alloc, history, session)? {
         return copy(alloc, history);
@@ -78,7 +78,7 @@ fn put_once(
     keeping: Keeping,
 ) -> Result<Vec<u8>, HistoryFault>
     ensures ok { IfOk result (λ text. IsPutOnce keeping history.now session.now text.items) }
-    ensures fault { IfErr result (IsKeepFault history.now session.now) }
+    ensures fault { IfErr result (IsOnceFault history.now session.now) }
 {
     if stands_there(alloc, history, session)? {
         return copy(alloc, history);
@@ -104,7 +104,7 @@ fn put_session(
     keeping: Keeping,
 ) -> Result<Vec<u8>, HistoryFault>
     ensures ok { IfOk result (λ text. IsPut keeping history.now session.now text.items) }
-    ensures fault { IfErr result (IsKeepFault history.now session.now) }
+    ensures fault { IfErr result (IsPutFault history.now session.now) }
 {
     let mut form = read_history(alloc, history)?;
     match put(alloc, &mut form, session, keeping) {
@@ -196,8 +196,8 @@ pub(crate) fn written(alloc: Global, form: HistoryForm<'_>) -> Result<Vec<u8>, H
     }
 }
 
-// Returns a copy of bytes.
-fn copy(alloc: Global, bytes: &[u8]) -> Result<Vec<u8>, HistoryFault>
+/// Returns a copy of bytes.
+pub(crate) fn copy(alloc: Global, bytes: &[u8]) -> Result<Vec<u8>, HistoryFault>
     ensures ok { IfOk result (λ text. text.items ≡ bytes.now) }
     ensures fault { IfErr result IsOutOfMemory }
 {

@@ -8,6 +8,7 @@
 
 mod fault;
 mod forms;
+mod framed;
 mod keeping;
 pub mod laws;
 mod lines;
@@ -25,6 +26,7 @@ mod write;
 
 pub use crate::fault::{HistoryFault, history_word};
 pub use crate::forms::{GenerationForm, HistoryForm, RenameForm};
+pub use crate::framed::Framed;
 pub use crate::keeping::{Keeping, keep_session};
 pub use crate::read::read_history;
 pub use crate::standing::{Present, Standing, is_history, present_of, standing_of};

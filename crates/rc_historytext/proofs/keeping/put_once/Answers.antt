@@ -1,7 +1,7 @@
 use Rattle.std.proofs.Common.{◌∙◌, inl, inr, sym}
 use Rattle.std.proofs.lemmas.Bool.{false≢true}
 use Rattle.std.proofs.lemmas.Result.{IfErr-weaker, IfOk-weaker, err_from_is_err_and}
-use Rattle.rc_historytext.proofs.Failing.{keep_memory}
+use Rattle.rc_historytext.proofs.Failing.{once_memory}
 use Rattle.rc_historytext.proofs.keeping.put_once.Goals as goal
 
 pub returns-clause-ok : goal.returns-clause-ok
@@ -17,9 +17,18 @@ pub returns-in_err-stands_there-clause-fault : goal.returns-in_err-stands_there-
 returns-in_err-stands_there-clause-fault c =
     let p = err_from_is_err_and c.from_residual.result c.from_residual.ensures.1 in
     rw (p.1, p.2)
-    (inl (inl c.in_err-stands_there.ensures.fault))
+    (inl c.in_err-stands_there.ensures.fault)
 
 pub returns-then-branch-clause-fault : goal.returns-then-branch-clause-fault
 returns-then-branch-clause-fault c =
     IfErr-weaker c.copy.result _ _
-    (λ fault is. keep_memory c.args.history.now c.args.session.now fault is) c.copy.ensures.fault
+    (λ fault is. once_memory c.args.history.now c.args.session.now fault is) c.copy.ensures.fault
+
+pub returns-clause-fault : goal.returns-clause-fault
+returns-clause-fault c =
+    IfErr-weaker c.put_session.result _ _
+    (λ fault refused. inr (
+      λ there. false≢true (sym c.if-branch.false ∙ c.in_ok-stands_there.ensures.ok.1 there),
+      refused,
+    ))
+    c.put_session.ensures.fault

@@ -1,5 +1,6 @@
 use Rattle.rc_historytext.proofs.TravelledSteps.{Laws}
 use Rattle.rc_historytext.proofs.TravelledStops.{travels_back, travels_on}
+use Rattle.rc_historytext.proofs.HaltedSteps.{halts_back, halts_on}
 use Rattle.rc_historytext.proofs.travel_laws.travels_undo_and_redo.Goals as goal
 
 pub returns : goal.returns
@@ -16,4 +17,9 @@ returns c =
       back = c.crossing_keeps_histories.ensures.back;
       inside = c.commands_keep_histories.ensures;
     } in
-    record { undo = travels_back laws; redo = travels_on laws }
+    record {
+      undo = travels_back laws;
+      redo = travels_on laws;
+      undo_left = halts_back laws;
+      redo_left = halts_on laws;
+    }
