@@ -75,7 +75,7 @@ last_newline [] r body is bare = absurd (newline_shows body [] (subst Bare is ba
 last_newline (x ∷ a) r [] is bare = (nothing a r (ap tail is)).1
 last_newline (x ∷ a) r (y ∷ body) is bare = last_newline a r body (ap tail is) bare
 
-whole_is_all : (a r b : List ℕ) → a ++ r ≡ b → EndsWhole b → Bare r → r ≡ []
+pub whole_is_all : (a r b : List ℕ) → a ++ r ≡ b → EndsWhole b → Bare r → r ≡ []
 whole_is_all a r b is (inl none) bare = (nothing a r (is ∙ none)).1
 whole_is_all a r b is (inr ended) bare = last_newline a r ended.0 (is ∙ ended.1) bare
 

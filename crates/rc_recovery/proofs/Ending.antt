@@ -55,7 +55,7 @@ any_true w s events e =
       ),
     )
 
-any_false : (w s : ℕ) (events : List Event) → list_any (ends w s) events ≡ false → (o : Outcome)
+pub any_false : (w s : ℕ) (events : List Event) → list_any (ends w s) events ≡ false → (o : Outcome)
     → Contains events (Done w s o) → ⊥
 any_false w s events e o h =
     let there : ends w s (slice_index_or events h.0 (Done w s o)) ≡ true =

@@ -38,3 +38,5 @@ mod Possible
 mod Files
 -- What workers log of a run begins one.
 mod Order
+-- An end that is appended to the log of a command that was cut short.
+mod Found

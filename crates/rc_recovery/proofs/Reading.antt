@@ -104,7 +104,7 @@ says_events names c step events lines run is are =
           (no_events c run) (reads_events names least (least_has_run c run) events [] lines are),
     )
 
-ends_line : (x text line : List ℕ) → IsLine text line → EndsWhole (x ++ text)
+pub ends_line : (x text line : List ℕ) → IsLine text line → EndsWhole (x ++ text)
 ends_line x text line is =
     inr (x ++ line, ap (λ (l : List ℕ). x ++ l) is.0 ∙ sym (append_assoc x line (10 ∷ [])))
 

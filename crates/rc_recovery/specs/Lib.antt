@@ -16,3 +16,5 @@ pub mod Logged
 pub mod Logging
 -- What recoveries make of the two files, also where they are cut short, and where that ends.
 pub mod Recoveries
+-- What was under way when a command was cut short, and the ends that are logged of it.
+pub mod UnderWay

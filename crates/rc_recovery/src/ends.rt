@@ -35,7 +35,7 @@ fn add_end(all: &mut Vec<Event>, event: Event) -> Result<(), AllocError>
 
 /// Returns true if one of the events ends the transition that the given worker makes of the given
 /// service.
-fn has_end(events: &[Event], worker: u8, service: u16) -> bool
+pub(crate) fn has_end(events: &[Event], worker: u8, service: u16) -> bool
     ensures { result ≡ list_any (ends worker service) events.now }
 {
     events.iter().any(|event| ends(worker, service, *event))

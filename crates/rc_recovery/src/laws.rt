@@ -1,15 +1,20 @@
 //! Laws about a run that was cut short. Each is the contract of an empty function.
-ghost use Rattle.std.specs.Prelude.{◌≡◌, ◌≤◌, ◌↔◌, ◌++◌, ◌∷◌, [], ℕ, List, Some, All};
+ghost use Rattle.std.specs.Prelude.{◌≡◌, ◌≢◌, ◌≤◌, ◌↔◌, ◌++◌, ◌∷◌, [], ℕ, List, Bool, Some, All};
 ghost use Rattle.rc_model.specs.declared.Event.{Event};
+ghost use Rattle.rc_model.specs.declared.Event.TheVariants.{Done};
+ghost use Rattle.rc_model.specs.declared.Outcome.TheVariants as outcome;
 ghost use Rattle.rc_model.specs.declared.Refusal.{Refusal};
 ghost use Rattle.rc_model.specs.Database.{Database};
 ghost use Rattle.rc_model.specs.Headline.{HasRun};
 ghost use Rattle.rc_model.specs.Line.{Line};
-ghost use Rattle.rc_model.specs.Run.{Course, IsLive, IsRun, IsSettled, IsStopped, NoneHeld};
+ghost use Rattle.rc_model.specs.Names.{Has};
+ghost use Rattle.rc_model.specs.Run.{Course, IsHeldBy, IsLive, IsRun, IsSettled, IsStopped};
+ghost use Rattle.rc_model.specs.Run.{NoneHeld};
 ghost use Rattle.rc_model.specs.Session.{Command, IsRunFault};
 ghost use Rattle.rc_recovery.specs.Ends.{IsEndOf, last_stop, with_ends};
 ghost use Rattle.rc_recovery.specs.Recovering.{IsCutShort, called_off};
 ghost use Rattle.rc_recovery.specs.Reordered.{AreReordered, without_stops};
+ghost use Rattle.rc_recovery.specs.UnderWay.{IsWayOf, unended};
 
 /// The ends of what was under way and a stop settle a run that was cut short, if it has a deadline
 /// and was not stopped.
@@ -62,4 +67,20 @@ pub fn stops_need_no_line()
         IsRun c (without_stops events) × (IsStopped (without_stops events) → ⊥) }
     ensures live { (c : Course) (events : List Event) (s : ℕ) →
         IsLive c (without_stops events) s ↔ IsLive c events s }
+{}
+
+/// Of each transition that events begin and do not end, its worker holds its service.
+pub fn what_is_unended_is_held()
+    ensures { (live : List Bool) (logged : List Event) →
+        All (IsWayOf live logged) (unended live logged) }
+{}
+
+/// The end of a transition that was under way turns its service, and no other: the service is live
+/// after it exactly if it was not up before the run.
+pub fn found_ends_turn_their_service()
+    ensures turned { (c : Course) (events : List Event) (w s : ℕ) → IsRun c events →
+        IsHeldBy events w s →
+        IsLive c (events ++ Done w s outcome.Ok ∷ []) s ↔ (Has c.up s → ⊥) }
+    ensures others { (c : Course) (events : List Event) (w s t : ℕ) → s ≢ t →
+        IsLive c (events ++ Done w s outcome.Ok ∷ []) t ↔ IsLive c events t }
 {}

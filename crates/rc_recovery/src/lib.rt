@@ -12,6 +12,7 @@ pub mod laws;
 mod logged;
 mod texts;
 mod two_files;
+mod ways;
 
 pub use crate::crash::{FilesFault, recover_files};
 pub use crate::ends::{with_ends, with_stop};
@@ -19,4 +20,5 @@ pub use crate::entering::recover;
 pub use crate::logged::logged_events;
 pub use crate::texts::{RecoverFault, Recovered, recover_text};
 pub use crate::two_files::{FileFault, TwoFiles, begin_log, replace_and_empty};
+pub use crate::ways::{UnderWay, log_end, under_way};
 pub use rc_session::NoMem;

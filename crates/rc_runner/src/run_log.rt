@@ -8,13 +8,13 @@ use rc_db::{Db, NoMem};
 use rc_livetext::write_live;
 use rc_model::Mode;
 use rc_names::Names;
-use rc_script::{event_line, step_line};
+use rc_script::{Process, event_line, process_line, step_line};
 use rc_session::{Command, Session};
 use rc_streams::run_file::{Room, RunFile};
 use std::alloc::Global;
 
-/// The log of a run: the text of the session from which it began, its step, and a line for each
-/// event. So it is the text of a session, and a script after it.
+/// The log of a run: the text of the session from which it began, its step, a line for each event,
+/// and a comment for each program. So it is the text of a session, and a script after it.
 #[derive(Drop)]
 pub(crate) struct RunLog<'a> {
     alloc: Global,
@@ -53,6 +53,14 @@ impl<'a> RunLog<'a> {
                 logged
             }
             Ok(None) | Err(_) => false,
+        }
+    }
+
+    /// Notes which program was started for the transition of a service.
+    pub(crate) fn note(&self, name: &str, process: Process) {
+        if let Ok(Some(line)) = process_line(self.alloc, name, process) {
+            self.file.note(line.as_bytes());
+            drop(line);
         }
     }
 

@@ -6,6 +6,7 @@ use log::Log;
 use rc_board::Gate;
 use rc_core::{Job, Outcome};
 use rc_session::{Command, Session};
+use std::fs::Files;
 use std::process::Processes;
 use std::time::Clock;
 
@@ -16,7 +17,7 @@ pub enum SessionGate<'a, R, L> {
     Shell(ShellGate<'a, R, L>),
 }
 
-impl<'a, R: Processes + Clock + Sync, L: Log + Sync> Gate for SessionGate<'a, R, L> {
+impl<'a, R: Processes + Clock + Files + Sync, L: Log + Sync> Gate for SessionGate<'a, R, L> {
     ghost use Rattle.rc_runner.specs.Gates.{gate_answers, gate_gives};
 
     ghost answers = { gate_answers };

@@ -21,11 +21,14 @@ use rc_core::{Event as RunEvent, Job, Outcome};
 use rc_db::{Db, NoMem, Service};
 use rc_graph::Way;
 use rc_names::Kind;
+use rc_script::Process;
 use rc_session::{Command, Session};
 use rc_streams::messages::MESSAGE;
+use rc_streams::process_start::start_of;
 use rc_streams::run_file::RunFile;
 use rc_streams::stop_file::StopFile;
 use std::alloc::{AllocError, Global};
+use std::fs::Files;
 use std::io::{self, Stderr};
 use std::marker::Model;
 use std::process::Processes;
@@ -80,7 +83,7 @@ impl<'a, R, L> Model for ShellGate<'a, R, L> {
     } };
 }
 
-impl<'a, R: Processes + Clock> ShellGate<'a, R, NoLog> {
+impl<'a, R: Processes + Clock + Files> ShellGate<'a, R, NoLog> {
     /// Creates a gate for the services of a database, with the words of a runner and of a
     /// controller. Without a word there is no such program. A service without a limit of its own
     /// has none, and nothing is reported.
@@ -115,7 +118,7 @@ impl<'a, R: Processes + Clock> ShellGate<'a, R, NoLog> {
     }
 }
 
-impl<'a, R: Processes + Clock, L: Log> ShellGate<'a, R, L> {
+impl<'a, R: Processes + Clock + Files, L: Log> ShellGate<'a, R, L> {
     /// Returns this gate with a limit, in milliseconds, for services without one of their own. 0 is
     /// no limit.
     pub fn with_limit(mut self, limit: u32) -> ShellGate<'a, R, L>
@@ -320,8 +323,24 @@ impl<'a, R: Processes + Clock, L: Log> ShellGate<'a, R, L> {
         }
         drop(command);
         match started {
-            Ok(mut child) => end_of(self.rt, self.alloc, &mut child, seconds(task.limit)),
+            Ok(mut child) => {
+                self.note_process(&task, child.id());
+                end_of(self.rt, self.alloc, &mut child, seconds(task.limit))
+            }
             Err(_) => Outcome::NotStarted,
+        }
+    }
+
+    /// Notes in the run log which program was started for a task. If this command is killed, the
+    /// next one finds that program.
+    fn note_process(&self, task: &Task<'_>, id: u32) {
+        let Some(run_log) = &self.run_log else {
+            return;
+        };
+        let id = id as u64;
+        if let Some(start) = start_of(self.rt, self.alloc, id) {
+            let limit = task.limit as u64;
+            run_log.note(task.name, Process { id, start, limit });
         }
     }
 
@@ -340,7 +359,7 @@ impl<'a, R: Processes + Clock, L: Log> ShellGate<'a, R, L> {
     }
 }
 
-impl<'a, R: Processes + Clock + Sync, L: Log + Sync> Gate for ShellGate<'a, R, L> {
+impl<'a, R: Processes + Clock + Files + Sync, L: Log + Sync> Gate for ShellGate<'a, R, L> {
     ghost use Rattle.rc_runner.specs.Shell.{MayAnswer};
 
     ghost answers = { λ gate service way outcome. MayAnswer gate.scripts service way outcome };

@@ -16,19 +16,19 @@ use std::time::{Clock, Duration, Instant};
 use std::{io, thread};
 
 /// How long a program that was asked to end may take to do so, in milliseconds.
-const GRACE: u64 = 5000;
+pub(crate) const GRACE: u64 = 5000;
 
 /// The texts by which a shell asks the session of a program to end, ends it, and ends what is left
 /// of it five seconds after the program. `$0` is the number of the program.
-const ASK: &str = "kill -TERM \"-$0\"";
+pub(crate) const ASK: &str = "kill -TERM \"-$0\"";
 
-const END: &str = "kill -KILL \"-$0\"";
+pub(crate) const END: &str = "kill -KILL \"-$0\"";
 
-const END_REST: &str =
+pub(crate) const END_REST: &str =
     "n=0; while [ $n -lt 50 ] && kill -0 \"-$0\"; do sleep 0.1; n=$((n+1)); done; kill -KILL \"-$0\"";
 
 /// The first and the longest pause while a program is waited for, in microseconds.
-const FIRST_PAUSE: u64 = 50;
+pub(crate) const FIRST_PAUSE: u64 = 50;
 
 const LONGEST_PAUSE: u64 = 10_000;
 
@@ -209,7 +209,7 @@ fn wait_for<R: Clock, P: OpenProcess + Drop>(rt: &R, child: &mut Child<P>, limit
 
 /// Returns true if so many milliseconds are over, by the clock, or by the pauses if it cannot be
 /// read.
-fn is_over(limit: u64, past: Option<u64>, paused: u64) -> bool
+pub(crate) fn is_over(limit: u64, past: Option<u64>, paused: u64) -> bool
     ensures { IsTrue result ↔ limit ≤ unwrap_or past paused }
 {
     limit <= past.unwrap_or(paused)
@@ -217,7 +217,7 @@ fn is_over(limit: u64, past: Option<u64>, paused: u64) -> bool
 
 /// Returns the pause after one, in microseconds. It is twice as long, up to `LONGEST_PAUSE`, so
 /// that a program that ends soon is found soon, and one that does not costs little.
-fn longer(pause: u64) -> u64 {
+pub(crate) fn longer(pause: u64) -> u64 {
     pause.saturating_mul(2).min(LONGEST_PAUSE)
 }
 
@@ -231,7 +231,7 @@ pub(crate) fn millis_since<R: Clock>(rt: &R, start: Option<Instant>) -> Option<u
 /// Ends a program and all of its session. Asks them to end, and kills them if they do not end in
 /// time or cannot be asked.
 fn end<R: Processes + Clock, P: OpenProcess + Drop>(rt: &R, alloc: Global, child: &mut Child<P>) {
-    let leader = child.id();
+    let leader = child.id() as u64;
     if signal(rt, alloc, ASK, leader).is_ok() {
         match wait_for(rt, child, GRACE) {
             Waited::Ended(_) | Waited::Lost => {
@@ -250,7 +250,12 @@ fn end<R: Processes + Clock, P: OpenProcess + Drop>(rt: &R, alloc: Global, child
 /// Sends a signal to the session of a program through a shell that runs the given text. While the
 /// program is not waited for, or a process of its session still runs, no other process has its
 /// number.
-fn signal<R: Processes>(rt: &R, alloc: Global, text: &str, leader: u32) -> io::Result<ExitStatus> {
+pub(crate) fn signal<R: Processes>(
+    rt: &R,
+    alloc: Global,
+    text: &str,
+    leader: u64,
+) -> io::Result<ExitStatus> {
     let mut command = Command::new(alloc, "/bin/sh")?;
     let Ok(()) = add_text(alloc, &mut command, text, leader) else {
         drop(command);
@@ -266,7 +271,7 @@ fn add_text(
     alloc: Global,
     command: &mut Command,
     text: &str,
-    leader: u32,
+    leader: u64,
 ) -> Result<(), AllocError> {
     let number = format!(in alloc; "{leader}")?;
     add_two(command, "-c", text)?;

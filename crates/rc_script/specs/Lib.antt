@@ -14,3 +14,5 @@ pub mod Events
 pub mod Script
 -- The lines of a run log: a step, and the events of its run.
 pub mod RunLines
+-- The comments of a run log that name the program of a transition.
+pub mod Processes

@@ -9,12 +9,14 @@ pub mod laws;
 mod line;
 mod numbers;
 mod options;
+mod processes;
 mod run_lines;
 mod script;
 mod verb;
 mod words;
 
 pub use crate::line::{SessionLine, read_line};
+pub use crate::processes::{Process, named_process, process_line};
 pub use crate::run_lines::{event_line, step_line};
 pub use crate::script::{ScriptFault, read_script};
 pub use crate::words::{is_digits, texts_of, words_of};

@@ -136,7 +136,7 @@ fn tells_event(alloc: Global, names: &Names, line: &[u8], event: Event) -> Resul
 }
 
 /// Appends a newline to a line.
-fn ended(line: String) -> Result<Option<String>, NoMem>
+pub(crate) fn ended(line: String) -> Result<Option<String>, NoMem>
     ensures { IfOk result (λ text. IfSome text (λ text.
         string_bytes text ≡ string_bytes line ++ 10 ∷ [])) }
 {

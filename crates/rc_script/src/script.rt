@@ -51,7 +51,7 @@ pub fn read_script(alloc: Global, names: &Names, text: &[u8]) -> Result<Vec<Step
 }
 
 /// Splits a text into its lines.
-fn lines_of(alloc: Global, text: &[u8]) -> Result<Vec<&[u8]>, NoMem>
+pub(crate) fn lines_of(alloc: Global, text: &[u8]) -> Result<Vec<&[u8]>, NoMem>
     ensures { IfOk result (λ lines. map (λ line. line.now) lines.items ≡ lines_in text.now) }
 {
     text.split(|byte| *byte == b'\n').collect(alloc)

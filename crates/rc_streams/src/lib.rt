@@ -14,7 +14,7 @@ mod lines;
 pub mod live_lock;
 pub mod messages;
 mod noted;
-mod process_start;
+pub mod process_start;
 pub mod replaced_file;
 pub mod run_file;
 pub mod stop_file;

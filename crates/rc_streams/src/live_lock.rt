@@ -4,7 +4,7 @@
 
 use crate::beside_file::{Access, RIGHTS, check_folder, open_own, refused, stands_at};
 use crate::messages::{MESSAGE, Messages};
-use crate::process_start::{own_start, start_of};
+use crate::process_start::{is_running, own_start};
 use crate::replaced_file::{beside, check_plain, folder_of, place};
 use crate::stop_file::is_signal_waiting;
 use log::info;
@@ -72,7 +72,7 @@ impl Owner {
 
     /// Returns true if the program still runs.
     fn is_alive(&self, rt: &HostRuntime) -> bool {
-        start_of(rt, self.id) == Some(self.started)
+        is_running(rt, rt.alloc(), u64::from(self.id), self.started)
     }
 }
 

@@ -25,8 +25,8 @@ const ENDING: &str = ".run";
 /// The number of bytes that a write of the system moves at once.
 const PAGE: u64 = 4096;
 
-/// How many bytes the two lines of a service have at most, without its name.
-const LINES: u64 = 32;
+/// How many bytes the three lines of a service have at most, without its name.
+const LINES: u64 = 88;
 
 /// The end of a log without room: its lines stand one behind the other, as far as they fit.
 const UNBOUND: u64 = u64::MAX;
@@ -48,7 +48,7 @@ impl Room {
     pub fn of(services: u64, names: u64) -> Room {
         let lines = services
             .saturating_mul(LINES)
-            .saturating_add(names.saturating_mul(2));
+            .saturating_add(names.saturating_mul(3));
         Room {
             // A line that does not fit on a page any more begins the next one.
             lines: lines.saturating_add(lines / 10).saturating_add(PAGE),
@@ -168,6 +168,19 @@ impl RunFile {
         }
         self.fail();
         false
+    }
+
+    /// Writes a line that may be missing after the earlier ones, if room was reserved for it.
+    pub fn note(&self, line: &[u8]) {
+        let has_room = self.end.load(Ordering::SeqCst) != UNBOUND;
+        if !has_room || !self.is_open.load(Ordering::SeqCst) {
+            return;
+        }
+        if let Some(place) = self.take_place(line.len() as u64) {
+            if self.file.write_all_at(line, place).is_err() {
+                self.fail();
+            }
+        }
     }
 
     /// Notes that a line could not be written.

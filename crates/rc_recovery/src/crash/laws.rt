@@ -1,16 +1,21 @@
 //! Laws about a crash at any point. Each is the contract of an empty function.
 ghost use Rattle.std.specs.Prelude.{◌≡◌, ◌⊎◌, ◌++◌, ◌∷◌, ℕ, List, [], Option};
 ghost use Rattle.rc_model.specs.declared.Event.{Event};
+ghost use Rattle.rc_model.specs.declared.Event.TheVariants.{Done};
+ghost use Rattle.rc_model.specs.declared.Outcome.TheVariants as outcome;
 ghost use Rattle.rc_model.specs.Database.{Database};
 ghost use Rattle.rc_model.specs.Line.{Line};
 ghost use Rattle.rc_model.specs.Plan.{PlanSets};
-ghost use Rattle.rc_model.specs.Run.{IsRun, course_of};
+ghost use Rattle.rc_model.specs.Run.{IsHeldBy, IsRun, course_of};
 ghost use Rattle.rc_model.specs.Session.{Command, DoesByRun, IsTask, Reported, events_of};
 ghost use Rattle.rc_recovery.specs.Reordered.{AreReordered, without_stops};
 ghost use Rattle.rc_recovery.specs.Files.{AfterCrash, Files};
 ghost use Rattle.rc_recovery.specs.Logging.{BeginsRun, HoldEvents, Logged, unlogged_writes};
 ghost use Rattle.rc_recovery.specs.Recoveries.{EndsIn, EndsInOneLine, IsAtRest, IsCrash};
 ghost use Rattle.rc_recovery.specs.Recoveries.{IsLineAfter};
+ghost use Rattle.rc_recovery.specs.RunLog.{EndsWhole};
+ghost use Rattle.rc_recovery.specs.UnderWay.{IsMore};
+ghost use Rattle.rc_script.specs.RunLines.{IsEventLine};
 
 use crate::laws::{
     cut_commands_are_entered, cut_runs_are_settled, logs_may_be_reordered, stops_need_no_line,
@@ -57,6 +62,18 @@ pub fn empty_logs_are_at_rest()
 {
     scripts_give_one_list();
 }
+
+/// If the end of a transition that was under way is appended to the log of a command that was cut
+/// short, a crash within that leaves what a crash leaves of a command that has logged this end,
+/// too. So `crashes_leave_one_line` holds of the files, whichever ends are appended, one after the
+/// other.
+pub fn found_ends_are_logged_ends()
+    ensures { (d : Database) (line new : Line) (l : Logged) (events : List Event) (w s : ℕ)
+        (text : List ℕ) (f g : Files) → IsCrash d line new l f g → HoldEvents d line l events g →
+        EndsWhole g.log → IsHeldBy events w s →
+        IsEventLine d.names (Done w s outcome.Ok) text → (more : Logged)
+        × IsMore d line new l (events ++ Done w s outcome.Ok ∷ []) text f g more }
+{}
 
 /// If all events of a run were logged, the line in which they are entered is the new line of the
 /// command. So a crash between its last event and the new text loses nothing.

@@ -1,0 +1,38 @@
+-- How a controller is asked where a longrun stands, and what its end says.
+use Rattle.std.specs.Prelude.{◌≡◌, ◌≢◌, ◌==◌, ◌∷◌, ℕ, List, [], Some, codes, if◌then◌else◌}
+use Rattle.std.specs.Process.{command_var}
+use Rattle.std.specs.declared.process.command.Command.{Command}
+use Rattle.rc_model.specs.declared.Outcome.{Outcome}
+use Rattle.rc_model.specs.declared.Outcome.TheVariants as outcome
+use Rattle.rc_runner.specs.Orders.{led}
+use Rattle.rc_runner.specs.Shell.{Runs}
+use Rattle.rc_runner.specs.declared.asking.Found.{Found}
+use Rattle.rc_runner.specs.declared.asking.Found.TheVariants as found
+
+-- how long a controller may take for an answer, in milliseconds and in seconds
+abbrev pub asking_limit : ℕ
+asking_limit = 5000
+
+abbrev pub asking_seconds : ℕ
+asking_seconds = 5
+
+-- what the end of a controller says: status 0 is up and 3 is down, and no other end says anything
+abbrev pub found_of : Outcome → Found
+found_of outcome.Ok = found.Up
+found_of (outcome.Failed status) = if status == 3 then found.Down else found.Unknown
+found_of outcome.TimedOut = found.Unknown
+found_of outcome.NotStarted = found.Unknown
+
+-- what a controller is told in its environment that is asked about a longrun
+abbrev pub IsQuestion : {A : Type 0} → List ℕ → Command A → Type 0
+IsQuestion name command =
+    (command_var command (codes "UNDORC_NAME") ≡ Some (Some name))
+    × (command_var command (codes "UNDORC_WAY") ≡ Some (Some (codes "state")))
+    × (command_var command (codes "UNDORC_LIMIT") ≡ Some (Some (codes "5000")))
+
+-- a controller of these words is called with `state` and the name of a longrun
+pub record IsAsking {A : Type 0} (words : List (List ℕ)) (name : List ℕ) (command : Command A)
+    : Type 0 where
+  pub some : words ≢ []
+  pub runs : Runs (led asking_limit words) (codes "state" ∷ name ∷ []) command
+  pub told : IsQuestion name command
