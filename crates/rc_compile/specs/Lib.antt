@@ -2,6 +2,8 @@
 
 -- Texts that are one slip of the hand apart.
 pub mod Edits
+-- The interpreter that a script names in its first line.
+pub mod Interpreters
 -- What `compile` writes: the text of the database of what the files of trees say.
 pub mod CompiledText
 -- Why `compile` writes nothing, and what it tells.

@@ -9,8 +9,15 @@ use std::io::{ErrorKind, Read};
 use std::rt::Files;
 use std::{fs, io};
 
-// The most reads of the names in a service directory, of 4,096 bytes each.
-const MAX_READS: u64 = 16;
+// The bytes that one read of a file or a listing asks for. Clearing a larger buffer, as the kit
+// does for each path, costs more instructions than reading a small file.
+const PIECE: usize = 1024;
+
+// The most reads of the names in a service directory.
+const MAX_READS: u64 = 64;
+
+// The most reads of a file: more than it may have bytes, since a read may be interrupted.
+const MAX_TRIES: u64 = 70_000;
 
 /// A tree in a file system: the subdirectories of a directory. No contract can say what it holds.
 ///
@@ -139,10 +146,18 @@ impl<R: Files + AllocGlobal + Clone + Drop> Tree for FolderTree<R> {
     }
 }
 
-// Returns the path of a file of a service directory below a root.
+// Returns the path of a file of a service directory below a root. Allocates once.
 fn path_in(alloc: Global, root: &str, service: &str, file: &str) -> Result<String, NoMem> {
-    let directory = path_to(alloc, root, service)?;
-    path_to(alloc, directory.as_str(), file)
+    let room = root
+        .len()
+        .saturating_add(service.len())
+        .saturating_add(file.len())
+        .saturating_add(2);
+    let mut path = String::with_capacity(alloc, room)?;
+    for part in [root, "/", service, "/", file] {
+        path.push_str(part)?;
+    }
+    Ok(path)
 }
 
 // Returns true if a service directory can be listed and has nothing of this name. Lists the
@@ -194,7 +209,7 @@ fn names_seen<R: Files>(rt: &R, alloc: Global, path: &str) -> Result<Option<Vec<
     let Ok(mut directory) = rt.open_dir(path) else {
         return Ok(None);
     };
-    let mut buffer = [0u8; 4096];
+    let mut buffer = [0u8; PIECE];
     for _ in 0..MAX_READS {
         match directory.read(&mut buffer) {
             Ok(0) => return Ok(Some(names)),
@@ -318,8 +333,24 @@ fn first_bytes<R: Files>(
     if !metadata_at(rt, path, has_links)?.is_file() {
         return Err(io::Error::from(ErrorKind::InvalidInput));
     }
+    let mut file = fs::open(rt, path)?;
+    read_first(alloc, &mut file)
+}
+
+// Reads the beginning of a file in pieces, since `read_to_end` clears a byte at a time.
+fn read_first<F: Read>(alloc: Global, file: &mut F) -> io::Result<Vec<u8>> {
     let mut bytes = Vec::new(alloc);
-    let file = fs::open(rt, path)?;
-    file.take(MAX_FILE as u64 + 1).read_to_end(&mut bytes)?;
-    Ok(bytes)
+    let mut piece = [0u8; PIECE];
+    for _ in 0..MAX_TRIES {
+        match file.read(&mut piece) {
+            Ok(0) => return Ok(bytes),
+            Ok(count) => bytes.extend_from_slice(&piece[..count])?,
+            Err(fault) if fault.kind() == ErrorKind::Interrupted => {}
+            Err(fault) => return Err(fault),
+        }
+        if bytes.len() > MAX_FILE {
+            return Ok(bytes);
+        }
+    }
+    Err(io::Error::from(ErrorKind::Interrupted))
 }

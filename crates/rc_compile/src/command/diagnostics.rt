@@ -6,6 +6,7 @@ mod chains;
 mod entries;
 mod entry_flaws;
 mod file_flaws;
+mod interpreters;
 mod listed;
 mod name_flaws;
 mod pipes;

@@ -100,12 +100,21 @@ impl<'a> Search<'a> {
         }
     }
 
-    /// Returns true if somebody may run a file of an entry.
-    pub(crate) fn is_executable(&mut self, entry: &Entry<'_, '_>, file: &str) -> bool {
-        let path = self.said.file_path(entry, file);
-        let found = self.rt.metadata(path.as_str());
+    /// Returns true if somebody may run the program that a script of an entry names. A name without
+    /// a slash in front is one in the directory of the entry.
+    pub(crate) fn has_program(&mut self, entry: &Entry<'_, '_>, program: &str) -> bool {
+        if program.starts_with('/') {
+            return self.is_executable(program);
+        }
+        let path = self.said.file_path(entry, program);
+        let is_there = self.is_executable(path.as_str());
         drop(path);
-        match found {
+        is_there
+    }
+
+    /// Returns true if a plain file stands at a path, and somebody may run it.
+    pub(crate) fn is_executable(&mut self, path: &str) -> bool {
+        match self.rt.metadata(path) {
             Ok(found) => found.is_file() && found.permissions().mode() & MAY_RUN != 0,
             Err(error) => {
                 self.said.note_error(&error);

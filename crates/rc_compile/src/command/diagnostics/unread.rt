@@ -1,23 +1,26 @@
 //! What a person may think is looked at, and is not.
 use crate::command::diagnostics::entries::{Entry, Sources, without_slash};
 use crate::command::diagnostics::entry_flaws::add_mistaken;
-use crate::command::diagnostics::listed::{name_at, text_of};
+use crate::command::diagnostics::interpreters::interpreter_of;
+use crate::command::diagnostics::listed::text_of;
 use crate::command::diagnostics::places::{line_at, offset_of};
 use crate::command::diagnostics::said::Hint;
 use crate::command::diagnostics::search::Search;
 use rc_names::Kind;
 
 /// The files that supervisors look at.
-const SUPERVISED: [&str; 22] = [
+const SUPERVISED: [&str; 24] = [
     "run",
     "finish",
     "notification-fd",
     "data",
     "env",
+    "root",
     "log",
     "down",
     "event",
     "supervise",
+    "flag-newpidns",
     "nosetsid",
     "check",
     "conf",
@@ -46,8 +49,8 @@ pub fn looks_like_entry(sources: &Sources<'_>) -> Hint {
 }
 
 /// Returns notes about the entries: which files are not looked at, which texts have a carriage
-/// return, which ends of pipelines get no pipe, and which bundles have no contents. Each note
-/// stands on a line of its own.
+/// return, which scripts can't be run, and which bundles have no contents. Each note stands on a
+/// line of its own.
 pub fn unread_files(sources: &Sources<'_>) -> Hint {
     let mut search = sources.search();
     add_all(&mut search);
@@ -80,8 +83,13 @@ fn add_notes(search: &mut Search<'_>, entry: &Entry<'_, '_>) {
             is_empty = false;
         }
         add_note(search, entry, file);
-        if matches!(file, "producer-for" | "consumer-for") {
-            add_unjoined(search, entry, file);
+        match file {
+            "run" | "finish" | "check" => {
+                add_unrunnable(search, entry, file);
+                add_lacking(search, entry, file);
+            }
+            "up" | "down" => add_lacking(search, entry, file),
+            _ => {}
         }
     }
     drop(files);
@@ -112,15 +120,28 @@ fn add_note(search: &mut Search<'_>, entry: &Entry<'_, '_>, file: &str) {
     }
 }
 
-/// Adds a note about an end of a pipeline that gets no pipe: its `run` opens the pipe, and is not
-/// executable.
-fn add_unjoined(search: &mut Search<'_>, entry: &Entry<'_, '_>, file: &str) {
-    let list = search.file(entry, file);
-    let names = name_at(text_of(&list), 0).is_some();
-    drop(list);
-    if names && entry.kind == Some(Kind::Longrun) && !search.is_executable(entry, "run") {
+/// Adds a note about a file of a longrun that its supervisor runs, if nobody may run it.
+fn add_unrunnable(search: &mut Search<'_>, entry: &Entry<'_, '_>, file: &str) {
+    let path = search.said.file_path(entry, file);
+    if entry.kind == Some(Kind::Longrun) && !search.is_executable(path.as_str()) {
         search.said.begin_line();
         search.said.add_file(entry, file);
-        search.said.add(" is not joined (run is not executable)");
+        search.said.add(" is not executable");
     }
+    drop(path);
+}
+
+/// Adds a note about a script whose first line names an interpreter that nobody may run.
+fn add_lacking(search: &mut Search<'_>, entry: &Entry<'_, '_>, file: &str) {
+    let script = search.file(entry, file);
+    if let Some(word) = interpreter_of(&script) {
+        let program = text_of(word);
+        if !search.has_program(entry, program) {
+            search.said.begin_line();
+            search.said.add_file(entry, file);
+            search.said.add(": no interpreter ");
+            search.said.add_quoted(program);
+        }
+    }
+    drop(script);
 }
