@@ -8,7 +8,8 @@ use Rattle.rc_args.specs.Words.{rows_for, rows_named}
 use Rattle.rc_args.specs.CommandWords.{Meaning}
 use Rattle.rc_args.specs.OnceAsked.{OnceAsk}
 use Rattle.rc_args.specs.Invocation.{InvokesEntered, InvokesMeant, InvokesNothing, Invokes}
-use Rattle.rc_args.specs.Invocation.{OfCompile, OfDb, OfOnce, OfPlan, OfReplay, OfRestart, OfSeal}
+use Rattle.rc_args.specs.Invocation.{OfCheck, OfCompile, OfDb, OfOnce, OfPlan, OfReplay, OfRestart}
+use Rattle.rc_args.specs.Invocation.{OfSeal}
 use Rattle.rc_args.specs.Invocation.{OfSession, OfStatus, OfCancel, OfUpdate, OfVersion}
 use Rattle.rc_args.specs.Invocation.{InvocationAsk}
 
@@ -77,11 +78,12 @@ pub others_none : (meaning : Meaning) (rows : List Row) → (meaning.command ≡
     → (meaning.command ≡ codes "replay" → ⊥) → (meaning.command ≡ codes "session" → ⊥)
     → (meaning.command ≡ codes "update" → ⊥) → (meaning.command ≡ codes "restart" → ⊥)
     → (meaning.command ≡ codes "seal" → ⊥) → (meaning.command ≡ codes "status" → ⊥)
-    → (meaning.command ≡ codes "cancel" → ⊥) → (meaning.command ≡ codes "version" → ⊥)
+    → (meaning.command ≡ codes "check" → ⊥) → (meaning.command ≡ codes "cancel" → ⊥)
+    → (meaning.command ≡ codes "version" → ⊥)
     → ((ask : OnceAsk) (file : Option Text) → InvokesMeant meaning rows (OfOnce ask file) → ⊥)
     → (ask : InvocationAsk) → InvokesMeant meaning rows ask → ⊥
-others_none meaning rows compile db plan replay session update restart seal status cancel version
-    none ask =
+others_none meaning rows compile db plan replay session update restart seal status check cancel
+    version none ask =
     elim ask as (λ (a : InvocationAsk). InvokesMeant meaning rows a → ⊥) [
       | OfCompile ask ↦ λ asks. compile asks.0
       | OfDb ask file ↦ λ asks. db asks.0
@@ -93,6 +95,7 @@ others_none meaning rows compile db plan replay session update restart seal stat
       | OfRestart ask file ↦ λ asks. restart asks.0
       | OfSeal ask file ↦ λ asks. seal asks.0
       | OfStatus ask file ↦ λ asks. status asks.0
+      | OfCheck ask file ↦ λ asks. check asks.0
       | OfCancel file ↦ λ asks. cancel asks.0
       | OfVersion ↦ λ asks. version asks.0
     ]

@@ -15,7 +15,8 @@ use Rattle.clap.specs.declared.ArgMatches.{ArgMatches}
 use Rattle.clap.proofs.WalkLemmas.{first_value-rows, raw_values-rows}
 use Rattle.std.specs.Option.{option_map_or}
 use Rattle.rc_args.specs.Commands.{Reads, altering_program, asking_program, bare, bare_program}
-use Rattle.rc_args.specs.Commands.{change_command, changing_program, compile_command, db_command}
+use Rattle.rc_args.specs.Commands.{change_command, changing_program, check_command}
+use Rattle.rc_args.specs.Commands.{compile_command, db_command}
 use Rattle.rc_args.specs.Commands.{flag, new_option, option, repeated, plan_command, program}
 use Rattle.rc_args.specs.Commands.{edit_command, journal_command, restart_command}
 use Rattle.rc_args.specs.Commands.{status_command, query_word, replay_command, session_command}
@@ -35,7 +36,7 @@ unfolding program altering_program changing_program asking_program bare with_arg
     option repeated word_list source_list query_word plan_command compile_command db_command
     replay_command session_command change_command start_command stop_command step_command
     cancel_command edit_command
-    restart_command status_command show_command journal_command bare_program
+    restart_command status_command check_command show_command journal_command bare_program
     update_command new_option
 program_is_plain = refl
 
@@ -44,7 +45,7 @@ unfolding program altering_program changing_program asking_program bare with_arg
     option repeated word_list source_list query_word plan_command compile_command db_command
     replay_command session_command change_command start_command stop_command step_command
     cancel_command edit_command
-    restart_command status_command show_command journal_command bare_program
+    restart_command status_command check_command show_command journal_command bare_program
     update_command new_option
 program_is_simple = refl
 

@@ -35,6 +35,7 @@ pub data InvocationAsk : Type 0 where
   OfRestart : NamedAsk → Option Text → InvocationAsk
   OfSeal : SessionAsk → Option Text → InvocationAsk
   OfStatus : NamedAsk → Option Text → InvocationAsk
+  OfCheck : NamedAsk → Option Text → InvocationAsk
   OfCancel : Option Text → InvocationAsk
   OfVersion : InvocationAsk
 
@@ -50,6 +51,7 @@ command_of (OfUpdate ask file) = codes "update"
 command_of (OfRestart ask file) = codes "restart"
 command_of (OfSeal ask file) = codes "seal"
 command_of (OfStatus ask file) = codes "status"
+command_of (OfCheck ask file) = codes "check"
 command_of (OfCancel file) = codes "cancel"
 command_of OfVersion = codes "version"
 
@@ -69,6 +71,7 @@ InvokesIn flag rows (OfUpdate ask file) = AsksUpdateIn rows ask × (file ≡ fil
 InvokesIn flag rows (OfRestart ask file) = AsksNamesIn rows ask × (file ≡ file_in rows)
 InvokesIn flag rows (OfSeal ask file) = AsksSessionIn rows ask × (file ≡ file_in rows)
 InvokesIn flag rows (OfStatus ask file) = AsksNamesIn rows ask × (file ≡ file_in rows)
+InvokesIn flag rows (OfCheck ask file) = AsksNamesIn rows ask × (file ≡ file_in rows)
 InvokesIn flag rows (OfCancel file) = file ≡ first_of (codes "live") rows
 InvokesIn flag rows OfVersion = Unit {0}
 
@@ -104,6 +107,7 @@ on_session (command.Update request) file = OfUpdate (update_ask_of request) file
 on_session (command.Restart request) file = OfRestart (named_ask_of request) file
 on_session (command.Seal request) file = OfSeal (session_ask_of request) file
 on_session (command.Status request) file = OfStatus (named_ask_of request) file
+on_session (command.Check request) file = OfCheck (named_ask_of request) file
 
 -- what such a command asks of the session
 abbrev pub command_session : SessionCommand → SessionRequest
@@ -113,6 +117,7 @@ command_session (command.Update request) = request.session
 command_session (command.Restart request) = request.session
 command_session (command.Seal request) = request
 command_session (command.Status request) = request.session
+command_session (command.Check request) = request.session
 
 -- the path of a file, if one is named
 abbrev pub path_text : Option (Bor Text) → Option Text
@@ -150,6 +155,9 @@ invocation_by defaults (OfSeal ask file) =
 invocation_by defaults (OfStatus ask file) =
     OfStatus (record ask { session = session_by defaults ask.session })
     (first_named file defaults.base)
+invocation_by defaults (OfCheck ask file) =
+    OfCheck (record ask { session = session_by defaults ask.session })
+    (first_named file defaults.base)
 invocation_by defaults (OfCancel file) = OfCancel (first_named file defaults.live)
 invocation_by defaults OfVersion = OfVersion
 
@@ -158,13 +166,14 @@ abbrev pub LacksOne : (base live : Option Text) → Type 0
 LacksOne base live = (base ≡ None) ⊎ (live ≡ None)
 
 -- a file that the command needs is not named: of a session of one line that of the session; of an
--- update, a restart, a seal and a status one of both; of `cancel` that of the session
+-- update, a restart, a seal, a status and a check one of both; of `cancel` that of the session
 abbrev pub LacksItsFile : InvocationAsk → Type 0
 LacksItsFile (OfOnce ask file) = LacksFile ask
 LacksItsFile (OfUpdate ask file) = LacksOne file ask.session.live
 LacksItsFile (OfRestart ask file) = LacksOne file ask.session.live
 LacksItsFile (OfSeal ask file) = LacksOne file ask.live
 LacksItsFile (OfStatus ask file) = LacksOne file ask.session.live
+LacksItsFile (OfCheck ask file) = LacksOne file ask.session.live
 LacksItsFile (OfCancel file) = file ≡ None
 LacksItsFile other = ⊥
 

@@ -36,7 +36,7 @@ pub mod OnceAsked
 pub mod UpdateAsked
 -- What the file of the renames says.
 pub mod Renames
--- What the words ask of `restart` and `status`.
+-- What the words ask of `restart`, `status` and `check`.
 pub mod NamedAsked
 -- What the words ask of `compile`.
 pub mod CompileAsked

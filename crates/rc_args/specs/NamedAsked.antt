@@ -1,4 +1,4 @@
--- What the words ask of `restart` and `status`.
+-- What the words ask of `restart`, `status` and `check`.
 use Rattle.std.specs.Prelude.{◌≡◌, List, map, string_bytes}
 use Rattle.clap.specs.Words.{Row, Text}
 use Rattle.rc_args.specs.Words.{words_in}

@@ -1,5 +1,5 @@
 -- What the words ask of `update`.
-use Rattle.std.specs.Prelude.{◌≡◌, Bool, List, Option, Some, codes, false, map, option_map, true}
+use Rattle.std.specs.Prelude.{◌≡◌, Bool, List, Option, Some, codes, map, option_map, true}
 use Rattle.clap.specs.Words.{Row, Text, first_of}
 use Rattle.rc_args.specs.Words.{is_on, values_in}
 use Rattle.rc_args.specs.SessionAsked.{AsksSessionIn, SessionAsk, session_ask_of}
@@ -7,15 +7,14 @@ use Rattle.rc_args.specs.declared.update_words.UpdateRequest.{UpdateRequest}
 use Rattle.rc_update.specs.Conversions.{Conversion, conversions_of}
 
 -- what is asked of `update`: what is asked of the sessions that it makes, the file of the new
--- database, that of the renames, under which names services go on and which are restarted, whether
--- it is shown and not done, and whether it was begun before
+-- database, that of the renames, under which names services go on and which are restarted, and
+-- whether it is shown and not done
 pub record UpdateAsk : Type 0 where
   pub session : SessionAsk
   pub new : Text
   pub renames : Option Text
   pub conversions : List Conversion
   pub dry : Bool
-  pub again : Bool
 
 -- the service of this name is restarted
 abbrev pub restart_of : Text → Conversion
@@ -28,7 +27,6 @@ pub record AsksUpdateIn (rows : List Row) (ask : UpdateAsk) : Type 0 where
   pub renames : ask.renames ≡ first_of (codes "renames") rows
   pub conversions : ask.conversions ≡ map restart_of (values_in (codes "restarts") rows)
   pub dry : ask.dry ≡ is_on (codes "dry") rows
-  pub again : ask.again ≡ false
 
 -- what a request of the program asks
 abbrev pub update_ask_of : UpdateRequest → UpdateAsk
@@ -38,5 +36,4 @@ update_ask_of request = record {
   renames = option_map (λ file. file.now) request.renames;
   conversions = conversions_of request.conversions.items;
   dry = request.dry;
-  again = request.again;
 }

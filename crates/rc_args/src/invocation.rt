@@ -134,6 +134,7 @@ fn invocation_meant<'a>(
         "restart" => SessionCommand::Restart(named_in(alloc, matches)?),
         "seal" => SessionCommand::Seal(session_in(alloc, matches)?),
         "status" => SessionCommand::Status(named_in(alloc, matches)?),
+        "check" => SessionCommand::Check(named_in(alloc, matches)?),
         _ => SessionCommand::Line(once_in(alloc, meaning, matches)?),
     };
     Ok(Invocation::Session(command, base))

@@ -14,7 +14,7 @@ use crate::texts::words_in;
 use clap::ArgMatches;
 use std::alloc::Global;
 
-/// The arguments of `restart` or `status`.
+/// The arguments of `restart`, `status` or `check`.
 #[derive(Drop)]
 pub struct NamedRequest<'a> {
     /// The options of the session.
@@ -39,7 +39,7 @@ impl<'a> NamedRequest<'a> {
     }
 }
 
-/// Reads the arguments of `restart` or `status` from its matches.
+/// Reads the arguments of `restart`, `status` or `check` from its matches.
 pub(crate) fn named_in<'a>(
     alloc: Global,
     matches: &ArgMatches<'a>,

@@ -27,6 +27,8 @@ pub enum SessionCommand<'a> {
     Seal(SessionRequest<'a>),
     /// The state of services is shown.
     Status(NamedRequest<'a>),
+    /// The controller is asked whether longruns are where the session says.
+    Check(NamedRequest<'a>),
 }
 
 impl<'a> SessionCommand<'a> {
@@ -38,7 +40,9 @@ impl<'a> SessionCommand<'a> {
             SessionCommand::Lines(request) | SessionCommand::Seal(request) => request,
             SessionCommand::Line(request) => &request.session,
             SessionCommand::Update(request) => &request.session,
-            SessionCommand::Restart(request) | SessionCommand::Status(request) => &request.session,
+            SessionCommand::Restart(request)
+            | SessionCommand::Status(request)
+            | SessionCommand::Check(request) => &request.session,
         }
     }
 
@@ -64,6 +68,9 @@ impl<'a> SessionCommand<'a> {
             SessionCommand::Status(request) => {
                 SessionCommand::Status(request.with_defaults(defaults))
             }
+            SessionCommand::Check(request) => {
+                SessionCommand::Check(request.with_defaults(defaults))
+            }
         }
     }
 
@@ -76,9 +83,9 @@ impl<'a> SessionCommand<'a> {
             SessionCommand::Lines(_) => false,
             SessionCommand::Line(request) => request.lacks_file(),
             SessionCommand::Update(request) => lacks_one(base, request.session.live),
-            SessionCommand::Restart(request) | SessionCommand::Status(request) => {
-                lacks_one(base, request.session.live)
-            }
+            SessionCommand::Restart(request)
+            | SessionCommand::Status(request)
+            | SessionCommand::Check(request) => lacks_one(base, request.session.live),
             SessionCommand::Seal(request) => lacks_one(base, request.live),
         }
     }

@@ -31,9 +31,6 @@ pub struct UpdateRequest<'a> {
     pub conversions: Vec<Conversion<'a>>,
     /// Whether the plans are printed and nothing moves.
     pub dry: bool,
-    /// Whether an earlier run of this update was killed in its first step, which is the last entry
-    /// of the session. No option says so.
-    pub again: bool,
 }
 
 impl<'a> UpdateRequest<'a> {
@@ -50,7 +47,6 @@ impl<'a> UpdateRequest<'a> {
             renames,
             conversions,
             dry,
-            again,
         } = self;
         UpdateRequest {
             session: session.with_defaults(defaults),
@@ -58,29 +54,6 @@ impl<'a> UpdateRequest<'a> {
             renames,
             conversions,
             dry,
-            again,
-        }
-    }
-
-    /// Returns this request with `again` set to the given value.
-    pub fn with_again(self, again: bool) -> UpdateRequest<'a>
-        ensures { update_ask_of result ≡ record (update_ask_of self.entry) { again = again } }
-    {
-        let UpdateRequest {
-            session,
-            new,
-            renames,
-            conversions,
-            dry,
-            again: _,
-        } = self;
-        UpdateRequest {
-            session,
-            new,
-            renames,
-            conversions,
-            dry,
-            again,
         }
     }
 
@@ -96,7 +69,6 @@ impl<'a> UpdateRequest<'a> {
             renames,
             conversions: _,
             dry,
-            again,
         } = self;
         UpdateRequest {
             session,
@@ -104,7 +76,6 @@ impl<'a> UpdateRequest<'a> {
             renames,
             conversions,
             dry,
-            again,
         }
     }
 }
@@ -130,7 +101,6 @@ pub(crate) fn update_in<'a>(
         renames: text_in(matches, "renames"),
         conversions,
         dry: is_on(matches, "dry"),
-        again: false,
     })
 }
 

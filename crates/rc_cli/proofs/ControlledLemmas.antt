@@ -122,9 +122,9 @@ begun_moves old new task command d plan is begun same also none =
     (subst (λ (h : Holding). IsLongrunOf h.database task.plan name) (sym is) on))))
 
 -- an update has the same parts, whatever shows it
-parts_once : (d e : Database) (list : List Conversion) (again : Bool) (line : Line) (p q : Parts)
-    → IsUpdate d e list again line p → IsUpdate d e list again line q → p ≡ q
-parts_once d e list again line p q first second =
+parts_once : (d e : Database) (list : List Conversion) (line : Line) (p q : Parts)
+    → IsUpdate d e list line p → IsUpdate d e list line q → p ≡ q
+parts_once d e list line p q first second =
     let lower = one_list d _ p.lower q.lower first.lower second.lower in
     let kept = one_set
     (Carried d e list (StaysUp d e list (Has line.current.live)))
@@ -230,7 +230,7 @@ controlled_ahead old new ask file from ahead is same (start, begins, stands) the
     un.begins begins) un.moves in
     let by : MovesByParts old new ask start on.parts name =
     subst (λ (p : Parts). MovesByParts old new ask start p name)
-    (parts_once old new ask.conversions ask.again start moved.0 on.parts moved.1 on.update)
+    (parts_once old new ask.conversions start moved.0 on.parts moved.1 on.update)
     moved.2 in
     none un.lacks name (subst (λ (h : Holding). MovesAhead h ahead name) (sym stands)
     (elim by [

@@ -26,13 +26,15 @@ mod Telling
 mod UpdateLemmas
 -- What the steps of an update move.
 mod SparingLemmas
--- What is wanted up in the end of an update that was begun before.
-mod WantedLemmas
+-- What an update moves, where the old database and what is live are known by other names.
+mod MovingLemmas
 -- The first line of a log, and that there is no other.
 mod BegunLemmas
 -- Where the undo of a restart leads.
 mod RestartLemmas
 -- Where services stand, and how that is printed.
 mod StatusLemmas
+-- Whether longruns are where a session says.
+mod CheckingLemmas
 -- What a command would move, and that there is no other.
 mod ControlledLemmas

@@ -18,7 +18,7 @@ use Rattle.rc_session.proofs.States.{current_state}
 use Rattle.rc_update.specs.Carrying.{AreNamesOf, Carried, IsAlteredUp, StaysUp}
 use Rattle.rc_update.specs.Conversions.{Conversion}
 use Rattle.rc_cli.specs.Steps.{step_ask}
-use Rattle.rc_cli.specs.Updating.{IsUpdate, IsWantedUp, Parts}
+use Rattle.rc_cli.specs.Updating.{IsUpdate, Parts}
 
 -- the services that the names of services stand for are those services
 module _ (d : Database) (table : Bundles) (P IsUp : ℕ → Type 0) (mode : Mode)
@@ -50,9 +50,9 @@ up_as needs P Q s each (inl member) = inl (each s member)
 up_as needs P Q s each (inr (t, member, path)) = inr (t, each t member, path)
 
 -- the first step
-module _ (old new : Database) (list : List Conversion) (again : Bool) (line : Line) (parts : Parts)
+module _ (old new : Database) (list : List Conversion) (line : Line) (parts : Parts)
     (plan : PlanSets) where
-  altered_wanted : IsLineOf old line → IsUpdate old new list again line parts → (t : ℕ)
+  altered_wanted : IsLineOf old line → IsUpdate old new list line parts → (t : ℕ)
       → IsAlteredUp old new list (Has line.current.live) t
       → IsWanted old.names line.current.table (Has line.current.live) (step_ask DownAll parts.lower)
       t
@@ -63,7 +63,7 @@ module _ (old new : Database) (list : List Conversion) (again : Bool) (line : Li
       (Has line.current.live) DownAll parts.lower update.lower t _
       (slice_get-get_or old.names t [] (omega (arith, low, bound))) altered
 
-  pub lowers : IsDatabase old → IsLineOf old line → IsUpdate old new list again line parts
+  pub lowers : IsDatabase old → IsLineOf old line → IsUpdate old new list line parts
       → IsPlanOf old line.current.table line.current.live (step_ask DownAll parts.lower) plan
       → (s : ℕ) → Has plan.lower s
       ↔ (Has line.current.live s × (StaysUp old new list (Has line.current.live) s → ⊥))
@@ -97,21 +97,21 @@ module _ (old new : Database) (list : List Conversion) (again : Bool) (line : Li
   lowers_alone planned s has = let comes = (planned.raise s).0 has in comes.1 comes.0.0
 
 -- the second step
-module _ (old new : Database) (list : List Conversion) (again : Bool) (line : Line) (parts : Parts)
+module _ (old new : Database) (list : List Conversion) (line : Line) (parts : Parts)
     (plan : PlanSets) where
-  carried_wanted : IsUpdate old new list again line parts → (t : ℕ)
-      → Carried old new list (IsWantedUp again line) t
+  carried_wanted : IsUpdate old new list line parts → (t : ℕ)
+      → Carried old new list (Has line.current.live) t
       → IsWanted new.names new.table (Has parts.kept) (step_ask Up parts.raise) t
   carried_wanted update t (s, up, (name, other, at_old, on, at_new)) =
-      wanted_back new new.table (Carried old new list (IsWantedUp again line)) (Has parts.kept) Up
+      wanted_back new new.table (Carried old new list (Has line.current.live)) (Has parts.kept) Up
       parts.raise update.raise t other at_new (s, up, (name, other, at_old, on, at_new))
 
-  pub raises : IsDatabase new → IsUpdate old new list again line parts
+  pub raises : IsDatabase new → IsUpdate old new list line parts
       → IsPlanOf new new.table parts.kept (step_ask Up parts.raise) plan
       → (s : ℕ) → Has plan.raise s ↔
-      (UpFrom new.needs (Carried old new list (IsWantedUp again line)) s × (Has parts.kept s → ⊥))
+      (UpFrom new.needs (Carried old new list (Has line.current.live)) s × (Has parts.kept s → ⊥))
   raises is update planned s =
-      let carried = Carried old new list (IsWantedUp again line) in
+      let carried = Carried old new list (Has line.current.live) in
       let wanted = IsWanted new.names new.table (Has parts.kept) (step_ask Up parts.raise) in (
         λ has. let comes = (planned.raise s).0 has in (
           elim comes.0 [

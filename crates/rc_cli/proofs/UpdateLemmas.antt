@@ -106,14 +106,14 @@ fault_behind result (Err fault) P ends fails =
 
 -- what two lines come to is what an update comes to, whose steps they are
 pub updated_by : (result : Result Ending ServeFault) (path : Option Path)
-    (was is : Option (List ℕ)) (As At : EndsIn) (list : List Conversion) (dry again : Bool)
+    (was is : Option (List ℕ)) (As At : EndsIn) (list : List Conversion) (dry : Bool)
     (what then : OnceSaying) (written gained : Option (List ℕ)) (from to : Holding) (new : Database)
-    (parts : Parts) → IsUpdate from.database new list again from.line parts
+    (parts : Parts) → IsUpdate from.database new list from.line parts
     → to ≡ session_with new parts from → what ≡ lowering dry parts.lower
     → then ≡ raising dry parts.raise
     → ServedBoth result path was is As At what then written gained from to
-    → Updated result path was is As At list dry again written gained from new
-updated_by result path was is As At list dry again what then written gained from to new parts update
+    → Updated result path was is As At list dry written gained from new
+updated_by result path was is As At list dry what then written gained from to new parts update
     there first second served = (
       parts,
       update,
@@ -132,20 +132,13 @@ pub updated_as : (result : Result Ending ServeFault) (path : Option Path)
     → stands ≡ from → IsAhead ask from new ahead
     → ServedBoth result path was is As At (Said (saying_of ahead.lowering))
     (Said (saying_of ahead.raising)) written gained stands ahead.to
-    → Updated result path was is As At ask.conversions ask.dry ask.again written gained from new
+    → Updated result path was is As At ask.conversions ask.dry written gained from new
 updated_as result path was is As At written gained ask stands from new ahead same there served =
-    updated_by result path was is As At ask.conversions ask.dry ask.again
+    updated_by result path was is As At ask.conversions ask.dry
     (Said (saying_of ahead.lowering)) (Said (saying_of ahead.raising)) written gained from ahead.to
     new there.parts there.update there.to there.lowers there.raises
     (subst (λ (h : Holding). ServedBoth result path was is As At (Said (saying_of ahead.lowering))
     (Said (saying_of ahead.raising)) written gained h ahead.to) same served)
-
--- the same update by the list that a slice is of
-pub update_with : (old new : Database) (xs ys : List Given) (again : Bool) (line : Line)
-    (parts : Parts) → xs ≡ ys → IsUpdate old new (conversions_of xs) again line parts
-    → IsUpdate old new (conversions_of ys) again line parts
-update_with old new xs ys again line parts is update =
-    subst (λ (l : List Given). IsUpdate old new (conversions_of l) again line parts) is update
 
 -- the first name that is no service's, by the lists that slices and tables are of
 pub stranger_of : (found : Option (Bor (List ℕ))) (xs ys : List Given)
@@ -195,7 +188,7 @@ pub runs_update : {R L Q M : Type 0} (result : Result Ending ServeFault) (ask : 
     → Updated result ask.session.live was is
     (IsDoneAs ask.session.workers (gate_answers gate) (gate_gives gate))
     (IsDoneAs ask.session.workers (gate_answers other) (gate_gives other))
-    ask.conversions ask.dry ask.again written gained from new
+    ask.conversions ask.dry written gained from new
     → RunsUpdate result ask file old new was is written gained
 runs_update result ask file old new gate other from was is written gained made
     (start, begins, stands) updated =
@@ -209,7 +202,7 @@ runs_update result ask file old new gate other from was is written gained made
       subst (λ (h : Holding). Updated result ask.session.live was is
           (IsDoneAs workers (gate_answers gate) (gate_gives gate))
           (IsDoneAs workers (gate_answers other) (gate_gives other))
-          ask.conversions ask.dry ask.again written gained h new) stands updated,
+          ask.conversions ask.dry written gained h new) stands updated,
     )))
   where
     workers : ℕ
@@ -221,7 +214,7 @@ runs_update result ask file old new gate other from was is written gained made
     Comes : EndsIn → EndsIn → Type 0
     Comes As At = (begin : Line)
         × BeginsBy old ask.session.bound (file_named ask.session.live file) begin
-        × Updated result ask.session.live was is As At ask.conversions ask.dry ask.again
+        × Updated result ask.session.live was is As At ask.conversions ask.dry
         written gained (session_on old begin) new
 
 -- why there is no gate of the first step, or of the second one, is why there are not both

@@ -79,7 +79,7 @@ MovesByParts old new ask line parts name =
 -- the same of an update from there
 abbrev pub MovesByUpdate : (old new : Database) → UpdateAsk → Line → List ℕ → Type 0
 MovesByUpdate old new ask line name = (parts : Parts)
-    × IsUpdate old new ask.conversions ask.again line parts
+    × IsUpdate old new ask.conversions line parts
     × MovesByParts old new ask line parts name
 
 -- the same where the session of the old database begins, and no program controls it

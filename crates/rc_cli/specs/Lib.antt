@@ -56,3 +56,5 @@ pub mod Begun
 pub mod Sealing
 -- Where services stand, as `status` prints it.
 pub mod Status
+-- Whether longruns are where a session says, as `check` prints it.
+pub mod Checking

@@ -32,7 +32,7 @@ abbrev pub RunsUpdate : Result Ending ServeFault → UpdateAsk → LiveFile → 
 RunsUpdate result ask file old new was is written gained =
     AreDoneFor old new ask.session.workers ask.session.making (λ As At. (start : Line)
     × BeginsBy old ask.session.bound (file_named ask.session.live file) start
-    × Updated result ask.session.live was is As At ask.conversions ask.dry ask.again
+    × Updated result ask.session.live was is As At ask.conversions ask.dry
     written gained (session_on old start) new)
 
 -- each service that is to fail on its way down is one of the old database, and each that is to

@@ -1,5 +1,5 @@
 -- The two steps of an update: one by the old database, and one by the new.
-use Rattle.std.specs.Prelude.{◌≡◌, ◌≢◌, ◌⊎◌, ◌∷◌, ◌+◌, ℕ, Bool, List, [], Option, Some, false, true}
+use Rattle.std.specs.Prelude.{◌≡◌, ◌≢◌, ◌⊎◌, ◌∷◌, ℕ, Bool, List, [], Option}
 use Rattle.std.specs.Prelude.{Result, Ok, Err, length, map, slice_get}
 use Rattle.std.specs.String.{string_bytes}
 use Rattle.rc_graph.specs.declared.Way.{Way}
@@ -76,27 +76,15 @@ parts_of update = record {
   raise = map string_bytes update.raise.items;
 }
 
--- the state before the current one
-abbrev pub IsBefore : Line → State → Type 0
-IsBefore line state = (place : ℕ) × (cursor line ≡ place + 1)
-    × (slice_get (states line) place ≡ Some state)
-
--- what is to be up in the end of an update: what is live; and where it was begun before and was cut
--- short in its first step, also what was live before that
-abbrev pub IsWantedUp : (again : Bool) → Line → ℕ → Type 0
-IsWantedUp false line s = Has line.current.live s
-IsWantedUp true line s = Has line.current.live s
-    ⊎ ((state : State) × IsBefore line state × Has state.live s)
-
 -- what an update does from where a line stands, with these conversions: what is live and altered,
--- gone or to be restarted is lowered, what neither is such nor needs it stays, and what is wanted
--- and goes on is raised
-pub record IsUpdate (old new : Database) (list : List Conversion) (again : Bool) (line : Line)
-    (parts : Parts) : Type 0 where
+-- gone or to be restarted is lowered, what neither is such nor needs it stays, and what is live and
+-- goes on is raised
+pub record IsUpdate (old new : Database) (list : List Conversion) (line : Line) (parts : Parts)
+    : Type 0 where
   pub lower : AreNamesOf old (IsAlteredUp old new list (Has line.current.live)) parts.lower
   pub kept : Holds parts.kept (Carried old new list (StaysUp old new list (Has line.current.live)))
   pub bound : length parts.kept ≡ length new.names
-  pub raise : AreNamesOf new (Carried old new list (IsWantedUp again line)) parts.raise
+  pub raise : AreNamesOf new (Carried old new list (Has line.current.live)) parts.raise
 
 -- the first of two lines was done, and the second one, on another session, came to this
 pub record ServesBoth (result : Result Ending ServeFault) (path : Option Path)
@@ -135,16 +123,16 @@ session_with new parts from = session_on new (carried_line new parts.kept from.l
 pub record IsAhead (ask : UpdateAsk) (from : Holding) (new : Database) (ahead : Ahead)
     : Type 0 where
   pub parts : Parts
-  pub update : IsUpdate from.database new ask.conversions ask.again from.line parts
+  pub update : IsUpdate from.database new ask.conversions from.line parts
   pub to : ahead.to ≡ session_with new parts from
   pub lowers : Said (saying_of ahead.lowering) ≡ lowering ask.dry parts.lower
   pub raises : Said (saying_of ahead.raising) ≡ raising ask.dry parts.raise
 
 -- an update from where a session stands came to this
 abbrev pub Updated : Result Ending ServeFault → Option Path → (was is : Option (List ℕ))
-    → (As At : EndsIn) → List Conversion → (dry again : Bool)
+    → (As At : EndsIn) → List Conversion → (dry : Bool)
     → (written gained : Option (List ℕ)) → Holding → Database → Type 0
-Updated result path was is As At list dry again written gained from new = (parts : Parts)
-    × IsUpdate from.database new list again from.line parts
+Updated result path was is As At list dry written gained from new = (parts : Parts)
+    × IsUpdate from.database new list from.line parts
     × ServedBoth result path was is As At (lowering dry parts.lower) (raising dry parts.raise)
     written gained from (session_with new parts from)

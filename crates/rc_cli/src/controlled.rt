@@ -113,8 +113,8 @@ pub(crate) fn uncontrolled_step(
     }
 }
 
-// Returns true if programs are started and none controls longruns.
-fn lacks_controller(request: &SessionRequest<'_>) -> bool
+/// Returns true if programs are started and none controls longruns.
+pub(crate) fn lacks_controller(request: &SessionRequest<'_>) -> bool
     ensures { IsTrue result ↔ LacksController (session_ask_of request.now) }
 {
     match &request.making {
@@ -244,8 +244,8 @@ fn longrun_of(alloc: Global, db: &Db, plan: &Plan) -> Result<Option<String>, NoM
     }
 }
 
-// Returns the name of a service.
-fn name_in(alloc: Global, db: &Db, service: u16) -> Result<Option<String>, NoMem>
+/// Returns the name of a service.
+pub(crate) fn name_in(alloc: Global, db: &Db, service: u16) -> Result<Option<String>, NoMem>
     requires { service < length db.now.names }
     ensures { IfOk result (λ found. MatchOption found ⊥
         (λ name. slice_get db.now.names service ≡ Some (string_bytes name))) }
@@ -268,8 +268,8 @@ fn longrun_in(db: &Db, set: &Set) -> Option<u16>
     None
 }
 
-// Returns true if a service is a longrun.
-fn is_longrun(db: &Db, service: u16) -> bool
+/// Returns true if a service is a longrun.
+pub(crate) fn is_longrun(db: &Db, service: u16) -> bool
     requires { service < length db.now.names }
     ensures { IsTrue result ↔ IsKind db.now service Longrun }
 {

@@ -1,5 +1,5 @@
 //! Laws of the definitions. The functions do nothing when they run.
-ghost use Rattle.std.specs.Prelude.{◌≢◌, ◌↔◌, ℕ, List, Bool, []};
+ghost use Rattle.std.specs.Prelude.{◌≢◌, ◌↔◌, ℕ, List, []};
 ghost use Rattle.rc_model.specs.Names.{Has, Holds};
 ghost use Rattle.rc_model.specs.Graph.{UpFrom};
 ghost use Rattle.rc_model.specs.Database.{Database, IsDatabase};
@@ -12,37 +12,37 @@ ghost use Rattle.rc_model.specs.declared.Event.{Event};
 ghost use Rattle.rc_update.specs.Carrying.{Carried, StaysUp};
 ghost use Rattle.rc_update.specs.Conversions.{Conversion};
 ghost use Rattle.rc_cli.specs.Steps.{step_ask};
-ghost use Rattle.rc_cli.specs.Updating.{IsUpdate, IsWantedUp, Parts};
+ghost use Rattle.rc_cli.specs.Updating.{IsUpdate, Parts};
 
 /// The first step of an update lowers exactly what is live and does not stay, and moves nothing
 /// else. A service is never moved if it is neither altered, gone nor to be restarted, and depends
 /// on nothing that is.
 pub fn lowering_spares_the_rest()
-    ensures lowers { (old new : Database) (list : List Conversion) (again : Bool) (line : Line)
+    ensures lowers { (old new : Database) (list : List Conversion) (line : Line)
         (parts : Parts) (plan : PlanSets) →
-        IsDatabase old → IsLineOf old line → IsUpdate old new list again line parts →
+        IsDatabase old → IsLineOf old line → IsUpdate old new list line parts →
         IsPlanOf old line.current.table line.current.live (step_ask DownAll parts.lower) plan →
         Holds plan.lower (λ s. Has line.current.live s
         × (StaysUp old new list (Has line.current.live) s → ⊥)) }
-    ensures alone { (old new : Database) (list : List Conversion) (again : Bool) (line : Line)
+    ensures alone { (old new : Database) (list : List Conversion) (line : Line)
         (parts : Parts) (plan : PlanSets) →
-        IsDatabase old → IsLineOf old line → IsUpdate old new list again line parts →
+        IsDatabase old → IsLineOf old line → IsUpdate old new list line parts →
         IsPlanOf old line.current.table line.current.live (step_ask DownAll parts.lower) plan →
         (s : ℕ) → Has plan.raise s → ⊥ }
 {}
 
-/// The second step of an update raises what is wanted and goes on, with all its dependencies,
+/// The second step of an update raises what is live and goes on, with all its dependencies,
 /// except what stayed live. It moves nothing else.
 pub fn raising_spares_the_rest()
-    ensures raises { (old new : Database) (list : List Conversion) (again : Bool) (line : Line)
+    ensures raises { (old new : Database) (list : List Conversion) (line : Line)
         (parts : Parts) (plan : PlanSets) →
-        IsDatabase new → IsUpdate old new list again line parts →
+        IsDatabase new → IsUpdate old new list line parts →
         IsPlanOf new new.table parts.kept (step_ask Up parts.raise) plan →
         Holds plan.raise (λ s. UpFrom new.needs
-        (Carried old new list (IsWantedUp again line)) s × (Has parts.kept s → ⊥)) }
-    ensures alone { (old new : Database) (list : List Conversion) (again : Bool) (line : Line)
+        (Carried old new list (Has line.current.live)) s × (Has parts.kept s → ⊥)) }
+    ensures alone { (old new : Database) (list : List Conversion) (line : Line)
         (parts : Parts) (plan : PlanSets) →
-        IsDatabase new → IsUpdate old new list again line parts →
+        IsDatabase new → IsUpdate old new list line parts →
         IsPlanOf new new.table parts.kept (step_ask Up parts.raise) plan →
         (s : ℕ) → Has plan.lower s → ⊥ }
 {}

@@ -4,6 +4,7 @@
 #![tactic(auto)]
 
 mod begun;
+mod checking;
 mod controlled;
 mod fault;
 pub mod laws;
@@ -16,6 +17,7 @@ mod update;
 mod updating;
 
 pub use crate::begun::{begins_restart, begins_update, logs_way};
+pub use crate::checking::{check_as_asked, controller_of};
 pub use crate::queries::{db_run, plan_run, replay_run};
 pub use crate::sealing::seal_as_asked;
 pub use crate::sessions::{LiveFile, Service, Store, TextKeeper, launch};

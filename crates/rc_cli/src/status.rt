@@ -234,8 +234,8 @@ fn wanted_answer(
     Ok(StatusAnswer { ending, text })
 }
 
-// Returns the set of all services.
-fn all_of(alloc: Global, names: &Names) -> Result<Set, NoMem>
+/// Returns the set of all services.
+pub(crate) fn all_of(alloc: Global, names: &Names) -> Result<Set, NoMem>
     ensures bound { IfOk result (λ all. length all ≡ length names.now) }
     ensures members { IfOk result (λ all. Holds all (λ s. s < length names.now)) }
 {

@@ -257,7 +257,7 @@ fn ahead_of(
 {
     let bound = from.journal().bound();
     let list = request.conversions.as_slice();
-    let update = match update_of(alloc, from, &new, list, request.again) {
+    let update = match update_of(alloc, from, &new, list) {
         Ok(update) => update,
         Err(short) => {
             drop(new);

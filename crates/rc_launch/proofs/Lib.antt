@@ -4,3 +4,10 @@
 mod ServingLemmas
 -- What comes of a run log that was read.
 mod RecoveryLemmas
+-- What holds of a write holds where its end was noted; and what was read is there.
+mod Noting
+-- An undo or a redo after which the services of the next state are live has come to that state.
+mod NextStates
+-- What is launched as an undo or a redo of one line, and is done, is a run inside the present
+-- generation of a history.
+mod TravelLemmas

@@ -8,6 +8,7 @@ use Rattle.rc_args.specs.declared.named_words.NamedRequest.{NamedRequest}
 use Rattle.rc_args.specs.declared.once_words.OnceRequest.{OnceRequest}
 use Rattle.rc_args.specs.declared.update_words.UpdateRequest.{UpdateRequest}
 use Rattle.rc_args.specs.declared.session_request.SessionRequest.{SessionRequest}
+use Rattle.rc_cli.specs.Checking.{TellsCheck}
 use Rattle.rc_cli.specs.Sealing.{SealsAs}
 use Rattle.rc_cli.specs.Status.{TellsStatus}
 use Rattle.rc_cli.specs.UpdateEnds.{Updates}
@@ -75,6 +76,17 @@ module _ (log : List ℕ) (file : LiveFile) (status : ℕ) (deal : Dealing)
   seal_carried request base new bytes same sealed =
       subst (λ (text : List ℕ). SealsAs text request.bound file status deal.was deal.is
       deal.io.written deal.io.gained writer keeper before after) same sealed
+
+  -- a check
+  pub check_carried : (request : NamedRequest) (base new : Option FileText) (bytes : List ℕ)
+      → bytes ≡ bytes_of base
+      → TellsCheck bytes (named_ask_of request) file status writer deal.io.written
+      deal.io.gained before after
+      → CarriesOut (command.Check request) base new log file status deal reader writer keeper
+      before after
+  check_carried request base new bytes is_base told =
+      subst (λ (text : List ℕ). TellsCheck text (named_ask_of request) file status writer
+      deal.io.written deal.io.gained before after) is_base told
 
   -- a question
   pub status_carried : (request : NamedRequest) (base new : Option FileText) (bytes logged : List ℕ)

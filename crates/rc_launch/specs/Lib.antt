@@ -11,11 +11,17 @@ pub mod Logs
 pub mod Held
 -- What the command of a run log has done to the states of the session.
 pub mod Keeping
+-- What a controller says of the transitions that were under way when a command was cut short.
+pub mod Asking
 -- What came of a run log beside the file of a session that is locked.
 pub mod Recovered
 -- What is found beside the file of a session, and that its runs are logged.
 pub mod Beside
 -- The files of a command are opened.
 pub mod Opening
+-- The history that the store of a session holds.
+pub mod HeldHistory
+-- An undo or a redo is asked for, and led so.
+pub mod Ways
 -- What a command comes to on what was read for it.
 pub mod Serving

@@ -1,9 +1,10 @@
 -- What is read for a command on the file of a session.
-use Rattle.std.specs.Prelude.{◌≡◌, ℕ, List, [], Option, None, Some, false, option_map}
+use Rattle.std.specs.Prelude.{◌≡◌, ◌≢◌, ℕ, List, [], Option, None, Some, false, option_map}
 use Rattle.std.specs.Prelude.{unwrap_or}
 use Rattle.std.specs.Borrow.{Bor}
 use Rattle.rc_args.specs.Invocation.{command_session}
 use Rattle.rc_args.specs.OnceAsked.{once_saying_of}
+use Rattle.rc_args.specs.SessionAsked.{session_ask_of}
 use Rattle.rc_args.specs.declared.session_command.SessionCommand.{SessionCommand}
 use Rattle.rc_args.specs.declared.session_command.SessionCommand.TheVariants as command
 use Rattle.rc_args.specs.declared.session_request.SessionRequest.{SessionRequest}
@@ -22,10 +23,15 @@ MovesBy (command.Update request) = request.dry ≡ false
 MovesBy (command.Restart request) = Unit {0}
 MovesBy (command.Seal request) = Unit {0}
 MovesBy (command.Status request) = ⊥
+MovesBy (command.Check request) = ⊥
 
 -- what is asked of the session
 abbrev pub session_in : Loaded → SessionRequest
 session_in loaded = command_session loaded.command
+
+-- a session is kept in a file that is named
+abbrev pub NamesFile : Loaded → Type 0
+NamesFile loaded = (session_ask_of (session_in loaded)).live ≢ None
 
 -- the path of a file that was read, and its bytes
 abbrev pub path_of : FileText → Bor (List ℕ)

@@ -7,6 +7,7 @@ use Rattle.rc_args.specs.SessionAsked.{session_ask_of}
 use Rattle.rc_args.specs.UpdateAsked.{update_ask_of}
 use Rattle.rc_args.specs.declared.named_words.NamedRequest.{NamedRequest}
 use Rattle.rc_args.specs.declared.once_words.OnceRequest.{OnceRequest}
+use Rattle.rc_cli.specs.Checking.{TellsCheck}
 use Rattle.rc_cli.specs.Sealing.{SealsAs}
 use Rattle.rc_cli.specs.Status.{TellsStatus}
 use Rattle.rc_cli.specs.UpdateEnds.{Updates}
@@ -52,7 +53,7 @@ abbrev pub IsLogFor : Loaded → LevelFilter → Type 0
 IsLogFor loaded level = level ≡ level_by (session_in loaded).verbosity
 
 -- a command was carried out on what was read, with this status: as a session of lines, or of one
--- line, as an update, a restart, a seal or a question
+-- line, as an update, a restart, a seal, a status or a check
 abbrev pub CarriesOut : SessionCommand → (base new : Option FileText) → (log : List ℕ) → LiveFile
     → (status : ℕ) → Dealing → (reader writer keeper : Type 0)
     → (before after : Option (List ℕ)) → Type 0
@@ -80,6 +81,9 @@ CarriesOut (command.Status request) base new log file status deal reader writer 
     after =
     TellsStatus (bytes_of base) (named_ask_of request) file log status writer
     deal.io.written deal.io.gained before after
+CarriesOut (command.Check request) base new log file status deal reader writer keeper before after =
+    TellsCheck (bytes_of base) (named_ask_of request) file status writer deal.io.written
+    deal.io.gained before after
 
 -- the same of a command that was loaded
 abbrev pub Carries : Loaded → (log : List ℕ) → LiveFile → (status : ℕ) → Dealing

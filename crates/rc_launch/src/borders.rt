@@ -1,5 +1,7 @@
 //! Where the steps of an undo or a redo lead, and whether the borders on the way are joined: no
 //! service has to move where one is crossed.
+ghost use Rattle.std.specs.Prelude.{IfOk, IsTrue};
+ghost use Rattle.rc_historytext.specs.Travelling.{GoesOn, IsAtBorder};
 
 use rc_db::Db;
 use rc_dbtext::database_of;
@@ -18,9 +20,21 @@ pub(crate) fn goes_on_behind(
     alloc: Global,
     history: &[u8],
     is_on: bool,
-) -> Result<bool, HistoryFault> {
+) -> Result<bool, HistoryFault>
+    ensures { IfOk result (GoesOn is_on history.now) }
+{
     match standing_of(alloc, history) {
         Ok(standing) => Ok(standing.is_passed() && standing.has_next(is_on)),
+        Err(fault) => Err(fault),
+    }
+}
+
+/// Returns true if the next step of an undo or a redo crosses a border.
+pub(crate) fn is_border(alloc: Global, history: &[u8], is_on: bool) -> Result<bool, HistoryFault>
+    ensures { IfOk result (λ is. IsTrue is → IsAtBorder is_on history.now) }
+{
+    match standing_of(alloc, history) {
+        Ok(standing) => Ok(!standing.has_inside(is_on) && standing.crosses_behind(is_on)),
         Err(fault) => Err(fault),
     }
 }

@@ -1,18 +1,39 @@
 //! A command is carried out on the files that were opened for it.
+ghost use Rattle.std.specs.Prelude.{◌≡◌, ℕ, Bool, IsTrue};
 ghost use Rattle.rc_streams.specs.Noting.{HasFailed};
+ghost use Rattle.rc_cli.specs.Storing.{store_of};
+ghost use Rattle.rc_historytext.specs.Travelling.{Travels};
+ghost use Rattle.rc_launch.specs.HeldHistory.{Leads};
+ghost use Rattle.rc_launch.specs.Loading.{NamesFile};
+ghost use Rattle.rc_launch.specs.Ways.{AsksWay, IsLedOn, IsWayLine};
 
+use crate::execution::Execution;
 use crate::live_store::LiveStore;
 use crate::opened::Opened;
 use crate::serving::{Status, serve, status_of};
+use crate::showing::{Shown, show};
 use crate::travel::{Way, travel};
 use crate::two_steps::{restart, update};
-use rc_args::{Once, SessionCommand};
+use rc_args::{NamedRequest, Once, SessionCommand, UpdateRequest};
 use rc_cli::sessions::Devices;
 use rc_script::SessionLine;
 use rc_session::Command;
 use std::io::{Read, Write};
 use std::sync::Wait;
 use std::thread::Threads;
+
+/// How a command is led.
+#[derive(Clone, Copy)]
+enum Led<'a> {
+    /// As an undo or a redo of a history.
+    Way(Way),
+    /// As one that is shown.
+    Shown(Shown<'a>),
+    Update(&'a UpdateRequest<'a>),
+    Restart(&'a NamedRequest<'a>),
+    /// As on a session that is kept alone.
+    Alone,
+}
 
 /// Carries a command out on the files that were opened for it, and returns the status, as `serve`
 /// does. On a history it goes on as far as the command leads. The devices must not have failed
@@ -25,36 +46,56 @@ pub fn carry_out<'x, T: Threads + Wait + Sync, R: Read, W: Write, F: Write>(
 ) -> Status
     requires reader { HasFailed devices.old.reader → ⊥ }
     requires writer { HasFailed devices.old.outputs.writer → ⊥ }
+
+    // An undo or a redo with status 0 leads, on a history, to the nearest stop.
+    ensures travels { (on : Bool) (limit : ℕ) → AsksWay opened.now.loaded.command on limit →
+        NamesFile opened.now.loaded → result.code ≡ 0 →
+        Leads (store_of devices.old.outputs.keeper) (store_of devices.new.outputs.keeper)
+        (Travels on) }
 {
-    match opened.command() {
-        SessionCommand::Line(request) => match way_of(&request.once) {
-            Some(way) if opened.live().history().is_some() => {
-                status_of(travel(rt, threads, opened, way, devices))
-            }
-            _ => serve(rt, threads, opened, devices),
-        },
-        SessionCommand::Update(request) if !request.dry => {
-            status_of(update(rt, threads, opened, request, devices))
-        }
-        SessionCommand::Restart(request) => {
-            status_of(restart(rt, threads, opened, request, devices))
-        }
-        _ => serve(rt, threads, opened, devices),
+    let execution = Execution {
+        rt,
+        threads,
+        opened,
+    };
+    let is_history = devices.outputs.keeper.store.history().is_some();
+    match led_by(opened.command(), is_history) {
+        Led::Way(way) => status_of(travel(&execution, way, devices)),
+        Led::Shown(shown) => status_of(show(&execution, shown, devices)),
+        Led::Update(request) => status_of(update(&execution, request, devices)),
+        Led::Restart(request) => status_of(restart(&execution, request, devices)),
+        Led::Alone => serve(rt, threads, opened, devices),
     }
 }
 
-// Returns the way of an undo or a redo, if the line is one.
-fn way_of(once: &Once) -> Option<Way<'_>> {
-    let (is_on, is_dry) = match once {
-        Once::DryUndo => (false, true),
-        Once::DryRedo => (true, true),
-        Once::Line(SessionLine::Command(Command::Undo(_))) => (false, false),
-        Once::Line(SessionLine::Command(Command::Redo(_))) => (true, false),
-        Once::Line(_) => return None,
-    };
-    Some(Way {
-        once,
-        is_on,
-        is_dry,
-    })
+// Returns how a command is led on a history, or on a session that is kept alone.
+fn led_by<'a>(command: &'a SessionCommand<'_>, is_history: bool) -> Led<'a>
+    ensures { (on : Bool) (limit : ℕ) → AsksWay command.now on limit → IsTrue is_history →
+        IsLedOn on result }
+{
+    match command {
+        SessionCommand::Line(request) if is_history => led_line(&request.once),
+        SessionCommand::Update(request) if !request.dry => Led::Update(request),
+        SessionCommand::Restart(request) => Led::Restart(request),
+        _ => Led::Alone,
+    }
+}
+
+// Returns how a line is led on a history.
+fn led_line(once: &Once) -> Led<'_>
+    ensures { (on : Bool) (limit : ℕ) → IsWayLine once.now on limit → IsLedOn on result }
+{
+    match once {
+        Once::DryUndo => Led::Shown(Shown { once, is_on: false }),
+        Once::DryRedo => Led::Shown(Shown { once, is_on: true }),
+        Once::Line(SessionLine::Command(Command::Undo(limit))) => Led::Way(Way {
+            is_on: false,
+            limit: *limit,
+        }),
+        Once::Line(SessionLine::Command(Command::Redo(limit))) => Led::Way(Way {
+            is_on: true,
+            limit: *limit,
+        }),
+        Once::Line(_) => Led::Alone,
+    }
 }

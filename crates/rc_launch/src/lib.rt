@@ -4,21 +4,26 @@
 //! without a session, and prints hints.
 #![tactic(auto)]
 
+mod asking;
 mod borders;
 mod carrying_out;
+mod execution;
 mod fault;
 pub mod frontend;
 mod fronts;
 mod held_files;
+mod left_programs;
 mod live_store;
 mod loading;
 mod opened;
 mod opening;
+mod outcomes;
 mod recovered;
 mod recovering;
 mod recovery;
 mod runs;
 mod serving;
+mod showing;
 mod texts;
 mod travel;
 mod tried_lock;

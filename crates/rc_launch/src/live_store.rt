@@ -2,12 +2,17 @@
 //! which it is the present one. The file is replaced whole. A text that stands there already is not
 //! written again; a file beside it shows that it could be.
 ghost use Rattle.std.specs.Prelude.{◌≡◌, ◌≢◌, ◌↔◌, None, option_map, if◌then◌else◌, IfErr, IfOk};
-ghost use Rattle.std.specs.Prelude.{true, IsSome, IsTrue, OnErr};
+ghost use Rattle.std.specs.Prelude.{true, IfSome, IsErr, IsNone, IsOk, IsOkAnd, IsSome, IsTrue};
+ghost use Rattle.std.specs.Prelude.{OnErr, OnOk, Some};
 ghost use Rattle.rc_args.specs.Making.{making_ask_of};
 ghost use Rattle.rc_args.specs.Programs.{StartsBy};
 ghost use Rattle.rc_launch.specs.Beside.{AreRunsOf, IsLocked};
 ghost use Rattle.rc_launch.specs.Loading.{session_in};
 ghost use Rattle.rc_launch.specs.Opening.{LocksFor, Replaces};
+ghost use Rattle.rc_historytext.specs.Updating.{IsCrossed, IsSettled};
+ghost use Rattle.rc_launch.specs.HeldHistory.{IsAlone, IsFrameOf, Leads, WasLedFrom, history_held};
+ghost use Rattle.rc_launch.specs.HeldHistory.{history_found, session_kept};
+ghost use Rattle.rc_launch.specs.declared.live_store.Frame.TheVariants as frame;
 
 use crate::loading::Loaded;
 use crate::opened::Opened;
@@ -15,9 +20,7 @@ use crate::runs::{Runs, RunsFault};
 use crate::tried_lock::TriedLock;
 use rc_args::{Making, Once, SessionCommand};
 use rc_cli::sessions::{KeptText, Store, keep_fault};
-use rc_historytext::{
-    HistoryFault, Keeping, cross_border, enter_generation, keep_session, new_history, settle_state,
-};
+use rc_historytext::{Framed, HistoryFault, Keeping, cross_border, settle_state};
 use rc_script::SessionLine;
 use rc_serve::KeepFault;
 use rc_session::Command;
@@ -40,8 +43,8 @@ enum Frame<'a> {
     Alone(Option<&'a [u8]>),
     /// A history that is to begin with this database.
     Begins(&'a [u8]),
-    /// The history of this text, which stands there.
-    History(Vec<u8>),
+    /// This history, which stands there.
+    History(Framed),
 }
 
 /// The generation that an update begins: its database, the conversions that lead to it, and the
@@ -63,6 +66,8 @@ pub struct LiveStore<'a> {
     frame: Frame<'a>,
     /// What the command does to the states of the session.
     keeping: Keeping,
+    /// Whether the session of one line is kept, in the history as it was before that line.
+    is_of_line: bool,
     /// Where an update leads, and whether it has come there.
     next: Option<Next<'a>>,
     is_entering: bool,
@@ -101,6 +106,7 @@ impl<'a> LiveStore<'a> {
             lock,
             frame: Frame::Alone(None),
             keeping: Keeping::Command,
+            is_of_line: false,
             next: None,
             is_entering: false,
             source: None,
@@ -114,6 +120,8 @@ impl<'a> LiveStore<'a> {
         ensures path { IfOk result (λ store. store.path ≡ self.entry.path) }
         ensures lock { IfOk result (λ store. store.lock ≡ self.entry.lock) }
         ensures error { IfOk result (λ store. store.error ≡ self.entry.error) }
+        ensures history { IfOk result (λ store.
+            history_held store ≡ history_found opened.now.live) }
     {
         let LiveStore {
             rt,
@@ -121,6 +129,7 @@ impl<'a> LiveStore<'a> {
             lock,
             frame: _,
             keeping: _,
+            is_of_line: _,
             next: _,
             is_entering: _,
             source: _,
@@ -133,6 +142,7 @@ impl<'a> LiveStore<'a> {
                 lock,
                 frame,
                 keeping: keeping_of(opened.command()),
+                is_of_line: false,
                 next: next_of(opened),
                 is_entering: false,
                 source: source_of(opened),
@@ -153,73 +163,139 @@ impl<'a> LiveStore<'a> {
     }
 
     /// Returns the text of the history that stands in the file, if one does.
-    pub(crate) fn history(&self) -> Option<&[u8]> {
+    pub(crate) fn history(&self) -> Option<&[u8]>
+        ensures { option_map (λ text. text.now) result ≡ history_held self.now }
+    {
         match &self.frame {
-            Frame::History(text) => Some(text),
+            Frame::History(framed) => Some(framed.whole()),
             _ => None,
         }
     }
 
     /// Crosses a border of the history, as one write.
-    pub(crate) fn cross(&mut self, is_on: bool) -> Result<(), KeepFault> {
-        let Frame::History(text) = &self.frame else {
+    pub(crate) fn cross(&mut self, is_on: bool) -> Result<(), KeepFault>
+        ensures { OnOk result (Leads self.old self.new (IsCrossed is_on)) }
+    {
+        let Frame::History(framed) = &self.frame else {
             return Ok(());
         };
-        let crossed = cross_border(self.rt.alloc(), text, is_on);
+        let crossed = cross_border(self.rt.alloc(), framed.whole(), is_on);
         self.put_made(crossed)
     }
 
     /// Makes the current state of the history a stop, if it is none, as one write.
-    pub(crate) fn settle(&mut self) -> Result<(), KeepFault> {
-        let Frame::History(text) = &self.frame else {
+    pub(crate) fn settle(&mut self) -> Result<(), KeepFault>
+        ensures { OnOk result (Leads self.old self.new IsSettled) }
+    {
+        let Frame::History(framed) = &self.frame else {
             return Ok(());
         };
-        let settled = settle_state(self.rt.alloc(), text);
+        let settled = settle_state(self.rt.alloc(), framed.whole());
         self.put_made(settled)
     }
 
     /// Sets what a command does to the states of the session, for all that is kept from now on.
-    pub(crate) fn keep_as(&mut self, keeping: Keeping) {
+    pub(crate) fn keep_as(&mut self, keeping: Keeping)
+        ensures { history_held self.new ≡ history_held self.old }
+    {
         self.keeping = keeping;
+        self.is_of_line = false;
+    }
+
+    /// Prepares the store for one line of an undo or a redo: what is kept from now on is kept in
+    /// the history as it is now.
+    pub(crate) fn begin_way(&mut self) -> Result<(), KeepFault>
+        ensures { OnOk result (history_held self.new ≡ history_held self.old) }
+    {
+        let Frame::History(framed) = &self.frame else {
+            return Ok(());
+        };
+        let alloc = self.rt.alloc();
+        let Ok(whole) = Vec::from_slice(alloc, framed.whole()) else {
+            return Err(KeepFault::Memory);
+        };
+        match Framed::new(alloc, whole, Keeping::Way) {
+            Ok(framed) => {
+                self.frame = Frame::History(framed);
+                self.keeping = Keeping::Way;
+                self.is_of_line = true;
+                Ok(())
+            }
+            Err(_) => Err(KeepFault::Memory),
+        }
+    }
+
+    /// Returns true if the history is what an undo or a redo makes of the given one.
+    pub(crate) fn was_led_from(&self, history: &[u8]) -> bool
+        ensures { IsTrue result → WasLedFrom self.now history.now }
+    {
+        match &self.frame {
+            Frame::History(framed) => framed.was_kept_in(history, Keeping::Way),
+            _ => false,
+        }
     }
 
     // Puts a history that was made into the file, and notes why that fails.
-    fn put_made(&mut self, made: Result<Vec<u8>, HistoryFault>) -> Result<(), KeepFault> {
-        let put = match made {
-            Ok(whole) => self.put_history(whole),
-            Err(fault) => Err(history_error(fault)),
-        };
+    fn put_made(&mut self, made: Result<Vec<u8>, HistoryFault>) -> Result<(), KeepFault>
+        ensures { OnOk result (IsOkAnd made (λ whole. history_held self.new ≡ Some whole.items)) }
+    {
+        let put = self.put_if_made(made);
         self.noted(put)
+    }
+
+    // Puts a history that was made into the file.
+    fn put_if_made(&mut self, made: Result<Vec<u8>, HistoryFault>) -> io::Result<()>
+        ensures { OnOk result (IsOkAnd made (λ whole. history_held self.new ≡ Some whole.items)) }
+    {
+        match made {
+            Ok(whole) => self.put_whole(whole),
+            Err(fault) => Err(history_error(fault)),
+        }
+    }
+
+    // Puts a history into the file, in which nothing is kept yet.
+    fn put_whole(&mut self, whole: Vec<u8>) -> io::Result<()>
+        ensures { OnOk result (history_held self.new ≡ Some whole.items) }
+    {
+        match Framed::new(self.rt.alloc(), whole, self.keeping) {
+            Ok(framed) => self.put_history(framed),
+            Err(fault) => Err(history_error(fault)),
+        }
     }
 
     // Puts a history into the file. If it stands there already, only tests whether it could be
     // replaced.
-    fn put_history(&mut self, whole: Vec<u8>) -> io::Result<()> {
+    fn put_history(&mut self, framed: Framed) -> io::Result<()>
+        ensures ok { OnOk result (self.new.frame ≡ frame.History framed) }
+        ensures left { OnErr result (self.new.frame ≡ self.old.frame) }
+    {
+        match self.written(framed.whole()) {
+            Ok(()) => {
+                self.frame = Frame::History(framed);
+                Ok(())
+            }
+            Err(error) => {
+                drop(framed);
+                Err(error)
+            }
+        }
+    }
+
+    // Writes a history into the file. If it stands there already, only tests whether it could be
+    // replaced.
+    fn written(&self, whole: &[u8]) -> io::Result<()> {
         let stands = match &self.frame {
-            Frame::History(text) => text == &whole,
+            Frame::History(framed) => framed.whole() == whole,
             _ => false,
         };
         if stands {
-            drop(whole);
             return probe(self.rt, self.path);
         }
         let _ = give_room(self.rt, self.path);
         if let Some(source) = self.source {
-            if let Err(error) = self.narrow(source) {
-                drop(whole);
-                return Err(error);
-            }
+            self.narrow(source)?;
         }
-        match replace(self.rt, self.path, &whole) {
-            Ok(()) => {
-                self.frame = Frame::History(whole);
-                Ok(())
-            }
-            Err(error) => {
-                drop(whole);
-                Err(error)
-            }
-        }
+        replace(self.rt, self.path, whole)
     }
 
     // Removes from the file those rights to read that the file of a database does not give, since
@@ -242,7 +318,10 @@ impl<'a> LiveStore<'a> {
 
     // Puts the text of a session into the file, alone. If it stands there already, only tests
     // whether it could be replaced.
-    fn put_alone(&mut self, text: &[u8]) -> io::Result<()> {
+    fn put_alone(&mut self, text: &[u8]) -> io::Result<()>
+        requires { IsAlone self.old.frame }
+        ensures { IsAlone self.new.frame }
+    {
         let stands = match &self.frame {
             Frame::Alone(Some(found)) => *found == text,
             _ => false,
@@ -255,25 +334,34 @@ impl<'a> LiveStore<'a> {
         replace(self.rt, self.path, text)
     }
 
-    // Returns the text of the history in which this session is the present one. Returns `None` if
-    // the session is kept alone.
-    fn framed(&self, text: &[u8]) -> Option<Result<Vec<u8>, HistoryFault>> {
+    // Returns the history in which this session is the present one. Returns `None` if the session
+    // is kept alone.
+    fn framed(&self, text: &[u8]) -> Option<Result<Framed, HistoryFault>>
+        ensures alone { IsNone result → IsAlone self.now.frame }
+        ensures kept { IfSome result (λ made. IfOk made (λ f. f.kept ≡ text.now)) }
+    {
         let alloc = self.rt.alloc();
         match (&self.frame, self.next) {
             (Frame::Alone(_), _) => None,
-            (Frame::Begins(database), _) => Some(new_history(alloc, database, text)),
-            (Frame::History(history), Some(next)) if self.is_entering => {
-                Some(enter_generation(alloc, history, next.database, text, next.list))
+            (Frame::Begins(database), _) => {
+                Some(Framed::begun(alloc, database, text, self.keeping))
             }
-            (Frame::History(history), _) => {
-                Some(keep_session(alloc, history, text, self.keeping))
+            (Frame::History(framed), Some(next)) if self.is_entering => {
+                Some(framed.entered(alloc, next.database, text, next.list))
             }
+            (Frame::History(framed), _) if self.is_of_line => {
+                Some(framed.instead(alloc, text, self.keeping))
+            }
+            (Frame::History(framed), _) => Some(framed.with(alloc, text, self.keeping)),
         }
     }
 
     // Notes why a write failed.
     fn noted(&mut self, put: io::Result<()>) -> Result<(), KeepFault>
-        ensures { IfErr result (λ fault. fault ≡ KeepFault.Io → IsSome self.new.error) }
+        ensures io { IfErr result (λ fault. fault ≡ KeepFault.Io → IsSome self.new.error) }
+        ensures frame { self.new.frame ≡ self.old.frame }
+        ensures ok { OnOk result (IsOk put) }
+        ensures err { OnErr result (IsErr put) }
     {
         match put {
             Ok(()) => Ok(()),
@@ -313,22 +401,12 @@ impl<'a> LiveStore<'a> {
 }
 
 impl Store for LiveStore<'_> {
-    ghost holds = { λ _. None };
+    ghost holds = { λ s. session_kept s };
 
     ghost failed = { λ s. IsSome s.error };
 
     fn replace(&mut self, text: KeptText<'_>) -> Result<(), KeepFault> {
-        let put = match self.framed(text.bytes()) {
-            None => self.put_alone(text.bytes()),
-            Some(Ok(whole)) => match self.made_first(text.bytes()) {
-                Ok(()) => self.put_entered(whole),
-                Err(error) => {
-                    drop(whole);
-                    Err(error)
-                }
-            },
-            Some(Err(fault)) => Err(history_error(fault)),
-        };
+        let put = self.put_session(text.bytes());
         self.noted(put)
     }
 
@@ -338,6 +416,33 @@ impl Store for LiveStore<'_> {
 }
 
 impl LiveStore<'_> {
+    // Puts a session into the file, alone or in a history.
+    fn put_session(&mut self, text: &[u8]) -> io::Result<()>
+        ensures ok { OnOk result (IfSome (session_kept self.new) (λ held. held ≡ text.now)) }
+        ensures known { IsSome (session_kept self.old) → IsSome (session_kept self.new) }
+        ensures left { OnErr result (session_kept self.new ≡ session_kept self.old) }
+    {
+        match self.framed(text) {
+            None => self.put_alone(text),
+            Some(Ok(framed)) => self.put_first(text, framed),
+            Some(Err(fault)) => Err(history_error(fault)),
+        }
+    }
+
+    // Puts a history into the file, which is made first if it is missing.
+    fn put_first(&mut self, text: &[u8], framed: Framed) -> io::Result<()>
+        ensures ok { OnOk result (self.new.frame ≡ frame.History framed) }
+        ensures left { OnErr result (self.new.frame ≡ self.old.frame) }
+    {
+        match self.made_first(text) {
+            Ok(()) => self.put_entered(framed),
+            Err(error) => {
+                drop(framed);
+                Err(error)
+            }
+        }
+    }
+
     // Makes a missing file in which a history is to begin. So only those who may read the database
     // may ever read the history.
     fn made_first(&self, text: &[u8]) -> io::Result<()> {
@@ -351,13 +456,16 @@ impl LiveStore<'_> {
 
     // Puts a history into the file, whether an update has entered its new generation or not. The
     // next session that is kept belongs to the generation that it has entered.
-    fn put_entered(&mut self, whole: Vec<u8>) -> io::Result<()> {
+    fn put_entered(&mut self, framed: Framed) -> io::Result<()>
+        ensures ok { OnOk result (self.new.frame ≡ frame.History framed) }
+        ensures left { OnErr result (self.new.frame ≡ self.old.frame) }
+    {
         let source = match self.next {
             Some(next) if self.is_entering => Some(next.source),
             _ => self.source,
         };
         self.source = source;
-        let put = self.put_history(whole);
+        let put = self.put_history(framed);
         if put.is_ok() && self.is_entering {
             self.is_entering = false;
             self.next = None;
@@ -376,9 +484,15 @@ fn history_error(fault: HistoryFault) -> io::Error {
 
 // Returns the frame in which the session of a command is kept: the history of its file, or a new
 // history with the database of the command if an update begins one.
-fn frame_of<'a>(alloc: Global, opened: &'a Opened<'_>) -> Result<Frame<'a>, AllocError> {
+fn frame_of<'a>(alloc: Global, opened: &'a Opened<'_>) -> Result<Frame<'a>, AllocError>
+    ensures { IfOk result (IsFrameOf opened.now.live) }
+{
     if let Some(history) = opened.live().history() {
-        return Ok(Frame::History(Vec::from_slice(alloc, history)?));
+        let whole = Vec::from_slice(alloc, history)?;
+        return match Framed::new(alloc, whole, keeping_of(opened.command())) {
+            Ok(framed) => Ok(Frame::History(framed)),
+            Err(_) => Err(AllocError),
+        };
     }
     match (opened.command(), opened.base()) {
         (SessionCommand::Update(_) | SessionCommand::Restart(_), Some(base)) => {
@@ -397,7 +511,9 @@ fn keeping_of(command: &SessionCommand<'_>) -> Keeping {
             Once::Line(SessionLine::Command(Command::Undo(_) | Command::Redo(_))) => Keeping::Way,
             _ => Keeping::Command,
         },
-        SessionCommand::Lines(_) | SessionCommand::Status(_) => Keeping::Way,
+        SessionCommand::Lines(_) | SessionCommand::Status(_) | SessionCommand::Check(_) => {
+            Keeping::Way
+        }
     }
 }
 

@@ -63,7 +63,7 @@ pub(crate) fn runs_scripts(command: &SessionCommand<'_>) -> bool {
     let making = &command.session().making;
     match command {
         SessionCommand::Line(request) => starts(making) && !is_edit(&request.once),
-        SessionCommand::Seal(_) | SessionCommand::Status(_) => false,
+        SessionCommand::Seal(_) | SessionCommand::Status(_) | SessionCommand::Check(_) => false,
         _ => starts(making),
     }
 }
@@ -124,7 +124,7 @@ pub(crate) fn moves_by(command: &SessionCommand<'_>) -> bool
         SessionCommand::Lines(_) | SessionCommand::Restart(_) | SessionCommand::Seal(_) => true,
         SessionCommand::Line(request) => moves(Some(&request.once)),
         SessionCommand::Update(request) => !request.dry,
-        SessionCommand::Status(_) => false,
+        SessionCommand::Status(_) | SessionCommand::Check(_) => false,
     }
 }
 

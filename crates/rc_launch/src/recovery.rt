@@ -6,6 +6,7 @@ ghost use Rattle.rc_launch.specs.Keeping.{finder_by};
 ghost use Rattle.rc_launch.specs.Recovered.{IsHeldFor, files_read};
 ghost use Rattle.rc_launch.specs.Held.{IsUnwritten, files_held};
 
+use crate::asking::ask_first;
 use crate::fault::OpenFault;
 use crate::fronts::is_of;
 use crate::held_files::{Finder, HeldFiles};
@@ -59,8 +60,9 @@ pub(crate) fn recover_first<'a>(
     }
 }
 
-// Reads the run log of a session, and enters what it leaves. Also gives back the room that is
-// reserved in the log, and removes what calls off other commands.
+// Reads the run log of a session, and enters what it leaves, after the controller was asked about
+// what is under way in it. Also gives back the room that is reserved in the log, and removes what
+// calls off other commands.
 fn recover<'a>(
     rt: &'a HostRuntime,
     path: &'a str,
@@ -77,7 +79,11 @@ fn recover<'a>(
     if log.bytes().is_empty() {
         return Ok(Recovery::Bare(log));
     }
-    match ReadFiles::read(rt, log) {
+    let read = match ReadFiles::read(rt, log) {
+        Ok(read) => read,
+        Err(fault) => return Err(fault),
+    };
+    match ask_first(rt, loaded, read) {
         Ok(read) => recover_read(rt, loaded, read),
         Err(fault) => Err(fault),
     }

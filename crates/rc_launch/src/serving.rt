@@ -1,21 +1,24 @@
 //! Carries a command out on its files.
-ghost use Rattle.std.specs.Prelude.{◌≡◌, option_map};
+ghost use Rattle.std.specs.Prelude.{◌≡◌, option_map, Some};
 ghost use Rattle.rc_streams.specs.Noting.{HasFailed};
-ghost use Rattle.rc_cli.specs.Session.{dealt};
+ghost use Rattle.rc_args.specs.SessionAsked.{session_ask_of};
+ghost use Rattle.rc_cli.specs.Launching.{Launches};
+ghost use Rattle.rc_cli.specs.Session.{asked_with, dealt};
 ghost use Rattle.rc_cli.specs.Storing.{store_of};
 ghost use Rattle.log.specs.Handle.{max_level};
 ghost use Rattle.rc_launch.specs.Serving.{Carries, IsLogFor, IsReadAs};
 ghost use Rattle.rc_launch.specs.Serving.{logged_of};
-ghost use Rattle.rc_launch.specs.Loading.{bytes_in};
+ghost use Rattle.rc_launch.specs.Loading.{bytes_in, session_in};
 ghost use Rattle.rc_cli.specs.declared.sessions.keeping.LiveFile.{LiveFile};
 
+use crate::execution::Execution;
 use crate::loading::{Loaded, bytes_of};
 use crate::opened::{Note, Opened};
 use crate::texts::FileText;
 use log::Logged;
 use rc_args::{SessionCommand, UpdateRequest};
 use rc_cli::sessions::{Devices, Host, LiveFile, Service, Store, launch, live_file, log_for};
-use rc_cli::{seal_as_asked, status_as_asked, update_as_asked};
+use rc_cli::{check_as_asked, seal_as_asked, status_as_asked, update_as_asked};
 use rc_streams::messages::Messages;
 use std::io::{Read, Write};
 use std::sync::Wait;
@@ -38,8 +41,8 @@ impl Status {
 
 /// Carries a command out on the files that were opened for it, and returns the status: 0 if all is
 /// done or shown; 1 if it is refused, and nothing has moved; 2 if it was carried out, and something
-/// failed, was blocked or was not tried; 111 for a failure. The devices must not have failed
-/// before.
+/// failed, was blocked or was not tried; 3 if a service is elsewhere; 111 for a failure. The
+/// devices must not have failed before.
 pub fn serve<'x, T: Threads + Wait + Sync, R: Read, W: Write, F: Write, S: Store>(
     rt: &'x HostRuntime,
     threads: &'x T,
@@ -87,6 +90,9 @@ pub fn serve<'x, T: Threads + Wait + Sync, R: Read, W: Write, F: Write, S: Store
             let log = logged_in(&opened.note);
             status_as_asked(rt.alloc(), request, bytes_of(base), live, log, devices)
         }
+        SessionCommand::Check(request) => {
+            check_as_asked(rt, request, bytes_of(base), live, devices)
+        }
     };
     Status { code }
 }
@@ -101,9 +107,7 @@ pub(crate) fn status_of(code: u8) -> Status
 /// Serves the line or the restart of a command on these texts of a database and of a session, in
 /// place of those that were opened for it, and returns the status.
 pub(crate) fn serve_on<'x, T: Threads + Wait + Sync, R: Read, W: Write, F: Write, S: Store>(
-    rt: &'x HostRuntime,
-    threads: &'x T,
-    opened: &'x Opened<'_>,
+    execution: &Execution<'x, '_, T>,
     service: Service<'_>,
     base: &[u8],
     live: LiveFile<'_>,
@@ -111,42 +115,40 @@ pub(crate) fn serve_on<'x, T: Threads + Wait + Sync, R: Read, W: Write, F: Write
 ) -> u8
     requires reader { HasFailed devices.old.reader → ⊥ }
     requires writer { HasFailed devices.old.outputs.writer → ⊥ }
+    ensures { Launches service.entry
+        (asked_with (session_ask_of (session_in execution.now.opened.now.loaded)) (Some base.now)
+        live.entry) result
+        (dealt R.remaining W.contents S.holds devices.old.reader devices.new.reader
+        devices.old.outputs devices.new.outputs)
+        (HasFailed devices.new.reader) (HasFailed devices.new.outputs.writer)
+        (S.failed (store_of devices.new.outputs.keeper))
+        (F.contents devices.old.faults) (F.contents devices.new.faults) }
 {
-    let log = log_of(&*rt, opened);
-    let host = host_of(&*rt, &*threads, &log, &*opened);
+    let opened = execution.opened;
+    let log = log_of(execution.rt, opened);
+    let host = host_of(execution.rt, execution.threads, &log, opened);
     launch(&host, opened.session(), service, Some(base), live, devices)
 }
 
-/// Carries out an update from these texts of a database and of a session, in place of those that
-/// were opened for it, and returns the status.
+/// Carries out an update from these texts of a database and of a session, and returns the status.
 pub(crate) fn serve_update<'x, T: Threads + Wait + Sync, R: Read, W: Write, F: Write, S: Store>(
-    rt: &'x HostRuntime,
-    threads: &'x T,
-    opened: &'x Opened<'_>,
+    execution: &Execution<'x, '_, T>,
     request: &UpdateRequest<'_>,
-    place: Option<(&[u8], &[u8])>,
+    base: &[u8],
+    live: LiveFile<'_>,
     devices: &mut Devices<R, W, F, S>,
 ) -> u8
     requires writer { HasFailed devices.old.outputs.writer → ⊥ }
 {
-    let log = log_of(&*rt, opened);
-    let host = host_of(&*rt, &*threads, &log, &*opened);
-    let (base, live) = match place {
-        Some((base, session)) => (base, LiveFile::Text(session)),
-        None => (bytes_of(&opened.loaded.base), read_of(opened)),
-    };
-    update_as_asked(
-        &host,
-        request,
-        base,
-        bytes_of(&opened.loaded.new),
-        live,
-        devices,
-    )
+    let opened = execution.opened;
+    let log = log_of(execution.rt, opened);
+    let host = host_of(execution.rt, execution.threads, &log, opened);
+    let new = bytes_of(&opened.loaded.new);
+    update_as_asked(&host, request, base, new, live, devices)
 }
 
-// Returns the content of the file of the session, as it was read.
-fn read_of<'x>(opened: &'x Opened<'_>) -> LiveFile<'x>
+/// Returns the content of the file of the session, as it was read.
+pub(crate) fn read_of<'x>(opened: &'x Opened<'_>) -> LiveFile<'x>
     ensures { IsReadAs (λ bytes. bytes.items) opened.now.live.found result }
 {
     live_file(opened.live.found())

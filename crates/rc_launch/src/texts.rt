@@ -2,6 +2,7 @@
 //! what the files had.
 ghost use Rattle.std.specs.Prelude.{◌≡◌, ◌↔◌, IfOk, IsTrue, option_map, unwrap_or, []};
 ghost use Rattle.rc_launch.specs.Loading.{base_file, history_read};
+ghost use Rattle.rc_launch.specs.HeldHistory.{history_found};
 ghost use Rattle.rc_launch.specs.Logs.{IsCutBy, text_in};
 
 use crate::fault::OpenFault;
@@ -125,7 +126,9 @@ impl<'a> LiveText<'a> {
     }
 
     /// Returns the text of the history that was found, if it was one.
-    pub fn history(&self) -> Option<&[u8]> {
+    pub fn history(&self) -> Option<&[u8]>
+        ensures { option_map (λ text. text.now) result ≡ history_found self.now }
+    {
         match &self.history {
             Some(history) => Some(&history.text),
             None => None,

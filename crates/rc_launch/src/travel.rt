@@ -1,272 +1,198 @@
-//! Commands on a history: an undo and a redo go on from states that are passed, across borders.
+//! An undo and a redo on a history: they go on from states that are passed, across borders.
+ghost use Rattle.std.specs.Prelude.{◌≡◌, ◌≢◌, ℕ, List, [], Some, IfErr, OnOk};
 ghost use Rattle.rc_streams.specs.Noting.{HasFailed};
+ghost use Rattle.rc_args.specs.OnceAsked.{Said, once_saying_of};
+ghost use Rattle.rc_script.specs.Says.{SaysStep};
+ghost use Rattle.rc_cli.specs.Storing.{store_of};
+ghost use Rattle.rc_historytext.specs.Travelling.{RunsInside, StepsTo, Travels, way_command};
+ghost use Rattle.rc_historytext.specs.Updating.{IsCrossed};
+ghost use Rattle.rc_launch.specs.HeldHistory.{Leads, LeadsOn, history_held};
+ghost use Rattle.rc_launch.specs.Loading.{NamesFile};
 
-use crate::borders::{first_unjoined, goes_on_behind};
+use crate::borders::{first_unjoined, goes_on_behind, is_border};
+use crate::execution::Execution;
 use crate::live_store::LiveStore;
-use crate::opened::Opened;
+use crate::outcomes::{fail_on, hindered, say_done, tell_unjoined, word_of};
 use crate::serving::serve_on;
 use rc_args::Once;
 use rc_cli::sessions::{Devices, LiveFile, Service};
-use rc_historytext::{HistoryFault, cross_border, present_of, standing_of};
-use rc_serve::KeepFault;
-use rc_streams::ending::{DONE, FAILED, REFUSED};
-use rc_streams::writing::write_answer;
-use rc_streams::{Failure, tell};
-use std::alloc::Global;
+use rc_historytext::present_of;
+use rc_script::SessionLine;
+use rc_session::Command;
+use rc_streams::Failure;
+use rc_streams::ending::{DONE, FAILED};
 use std::io::{Read, Write};
 use std::sync::Wait;
 use std::thread::Threads;
 
-/// Something was carried out, and not all of it is done.
-const HINDERED: u8 = 2;
-
 /// The most steps of an undo: inside each generation, and across each border.
-const MAX_STEPS: usize = 16;
+pub(crate) const MAX_STEPS: usize = 16;
 
-/// An undo or a redo.
+/// An undo (not `is_on`) or a redo.
 #[derive(Clone, Copy)]
-pub(crate) struct Way<'a> {
-    /// Its line, or that it is only shown.
-    pub once: &'a Once,
+pub(crate) struct Way {
     pub is_on: bool,
-    pub is_dry: bool,
+    /// The limit of each of its runs in milliseconds, or 0 if it has none.
+    pub limit: u32,
 }
 
-/// The texts of a generation.
-#[derive(Drop)]
-pub(crate) struct Texts {
-    pub database: Vec<u8>,
-    pub session: Vec<u8>,
+impl Way {
+    /// Returns the line of one step.
+    pub fn line(self) -> Once
+        ensures { once_saying_of result ≡ Said (SaysStep (way_command self.is_on self.limit [])) }
+    {
+        let command = if self.is_on {
+            Command::Redo(self.limit)
+        } else {
+            Command::Undo(self.limit)
+        };
+        Once::Line(SessionLine::Command(command))
+    }
 }
 
 /// Carries out an undo or a redo, and returns the status. All borders on its way are tested first.
 pub(crate) fn travel<'x, T: Threads + Wait + Sync, R: Read, W: Write, F: Write>(
-    rt: &'x HostRuntime,
-    threads: &'x T,
-    opened: &'x Opened<'_>,
-    way: Way<'_>,
+    execution: &Execution<'x, '_, T>,
+    way: Way,
     devices: &mut Devices<R, W, F, LiveStore<'x>>,
 ) -> u8
     requires reader { HasFailed devices.old.reader → ⊥ }
     requires writer { HasFailed devices.old.outputs.writer → ⊥ }
+    ensures { result ≡ 0 → NamesFile execution.now.opened.now.loaded →
+        Leads (store_of devices.old.outputs.keeper) (store_of devices.new.outputs.keeper)
+        (Travels way.is_on) }
 {
-    let alloc = rt.alloc();
+    let alloc = execution.rt.alloc();
     match first_unjoined(alloc, history_in(devices), way.is_on) {
-        Ok(None) => {}
-        Ok(Some(border)) => return tell_unjoined(alloc, border, devices),
-        Err(_) => return fail_on(b"Memory", devices),
-    }
-    if way.is_dry {
-        return show(rt, threads, opened, way, devices);
-    }
-    let mut has_run = false;
-    for _ in 0..MAX_STEPS {
-        if devices.reader.failed() || devices.outputs.writer.failed() {
-            return FAILED;
-        }
-        let Ok(is_border) = is_border(alloc, history_in(devices), way.is_on) else {
-            return fail_on(b"Memory", devices);
-        };
-        if is_border {
-            if let Err(fault) = devices.outputs.keeper.store.cross(way.is_on) {
-                return fail_on(word_of(fault), devices);
-            }
-        } else {
-            let code = run_inside(rt, threads, opened, way, devices);
-            if code != DONE {
-                return if has_run { hindered(code) } else { code };
-            }
-            has_run = true;
-        }
-        match goes_on_behind(alloc, history_in(devices), way.is_on) {
-            Ok(true) => {}
-            Ok(false) => break,
-            Err(_) => return fail_on(b"Memory", devices),
-        }
-    }
-    if has_run {
-        DONE
-    } else {
-        say_done(b"ok\n", devices)
+        Ok(None) => steps(execution, way, devices),
+        Ok(Some(border)) => tell_unjoined(alloc, border, devices),
+        Err(_) => fail_on(b"Memory", devices),
     }
 }
 
-// Shows what an undo or a redo would do: the plan of each of its runs, as if the earlier ones were
-// done.
-fn show<'x, T: Threads + Wait + Sync, R: Read, W: Write, F: Write>(
-    rt: &'x HostRuntime,
-    threads: &'x T,
-    opened: &'x Opened<'_>,
-    way: Way<'_>,
+// Takes the steps of an undo or a redo, and returns the status.
+fn steps<'x, T: Threads + Wait + Sync, R: Read, W: Write, F: Write>(
+    execution: &Execution<'x, '_, T>,
+    way: Way,
     devices: &mut Devices<R, W, F, LiveStore<'x>>,
 ) -> u8
-    requires reader { HasFailed devices.old.reader → ⊥ }
-    requires writer { HasFailed devices.old.outputs.writer → ⊥ }
+    ensures { result ≡ 0 → NamesFile execution.now.opened.now.loaded →
+        Leads (store_of devices.old.outputs.keeper) (store_of devices.new.outputs.keeper)
+        (Travels way.is_on) }
 {
-    let alloc = rt.alloc();
-    let Ok(mut history) = Vec::from_slice(alloc, history_in(devices)) else {
-        return fail_on(b"Memory", devices);
-    };
     let mut has_run = false;
-    let mut code = DONE;
     for _ in 0..MAX_STEPS {
-        if devices.reader.failed() || devices.outputs.writer.failed() {
-            code = FAILED;
-            break;
+        match step(execution, way, devices) {
+            Ok(is_run) => has_run = has_run || is_run,
+            Err(code) => return if has_run { hindered(code) } else { code },
         }
-        let Ok(standing) = standing_of(alloc, &history) else {
-            code = fail_on(b"Memory", devices);
-            break;
-        };
-        let goes_inside = standing.has_inside(way.is_on) || !standing.has_next(way.is_on);
-        let goes_on = if goes_inside {
-            let service = Service::Line(way.once);
-            let live = LiveFile::Text(standing.session);
-            code = serve_on(
-                rt,
-                threads,
-                opened,
-                service,
-                standing.database,
-                live,
-                devices,
-            );
-            has_run = true;
-            code == DONE && standing.passes_inside(way.is_on)
-        } else {
-            true
-        };
-        let crosses = standing.crosses_behind(way.is_on);
-        if !goes_on || !crosses {
-            break;
-        }
-        match cross_border(alloc, &history, way.is_on) {
-            Ok(crossed) => {
-                drop(history);
-                history = crossed;
-            }
-            Err(_) => {
-                code = fail_on(b"Memory", devices);
-                break;
-            }
-        }
-        let Ok(standing) = standing_of(alloc, &history) else {
-            code = fail_on(b"Memory", devices);
-            break;
-        };
-        if !standing.is_passed() || !standing.has_next(way.is_on) {
-            break;
+        match goes_on_behind(execution.rt.alloc(), history_in(devices), way.is_on) {
+            Ok(true) => {}
+            Ok(false) if has_run => return DONE,
+            Ok(false) => return say_done(b"ok\n", devices),
+            Err(_) => return fail_on(b"Memory", devices),
         }
     }
-    drop(history);
-    if has_run || code != DONE {
-        code
-    } else {
-        say_done(b"ok\n", devices)
+    fail_on(b"Strange", devices)
+}
+
+// Takes one step: crosses a border, or serves a line in the present generation. Returns true if a
+// line was served, or the status if the step was not done.
+fn step<'x, T: Threads + Wait + Sync, R: Read, W: Write, F: Write>(
+    execution: &Execution<'x, '_, T>,
+    way: Way,
+    devices: &mut Devices<R, W, F, LiveStore<'x>>,
+) -> Result<bool, u8>
+    ensures ok { OnOk result (NamesFile execution.now.opened.now.loaded →
+        Leads (store_of devices.old.outputs.keeper) (store_of devices.new.outputs.keeper)
+        (StepsTo way.is_on)) }
+    ensures fault { IfErr result (λ code. code ≢ 0) }
+{
+    if devices.reader.failed() || devices.outputs.writer.failed() {
+        return Err(FAILED);
+    }
+    match is_border(execution.rt.alloc(), history_in(devices), way.is_on) {
+        Ok(true) => cross(way.is_on, devices),
+        Ok(false) => match run_inside(execution, way, devices) {
+            DONE => Ok(true),
+            code => Err(code),
+        },
+        Err(_) => Err(fail_on(b"Memory", devices)),
+    }
+}
+
+// Crosses a border. Returns the status if that fails.
+fn cross<R, W, F: Write>(
+    is_on: bool,
+    devices: &mut Devices<R, W, F, LiveStore<'_>>,
+) -> Result<bool, u8>
+    ensures ok { OnOk result (Leads (store_of devices.old.outputs.keeper)
+        (store_of devices.new.outputs.keeper) (IsCrossed is_on)) }
+    ensures fault { IfErr result (λ code. code ≢ 0) }
+{
+    match devices.outputs.keeper.store.cross(is_on) {
+        Ok(()) => Ok(false),
+        Err(fault) => Err(fail_on(word_of(fault), devices)),
     }
 }
 
 // Serves the line of an undo or a redo in the present generation, and returns the status.
 fn run_inside<'x, T: Threads + Wait + Sync, R: Read, W: Write, F: Write>(
-    rt: &'x HostRuntime,
-    threads: &'x T,
-    opened: &'x Opened<'_>,
-    way: Way<'_>,
+    execution: &Execution<'x, '_, T>,
+    way: Way,
     devices: &mut Devices<R, W, F, LiveStore<'x>>,
 ) -> u8
     requires reader { HasFailed devices.old.reader → ⊥ }
     requires writer { HasFailed devices.old.outputs.writer → ⊥ }
+    ensures { result ≡ 0 → NamesFile execution.now.opened.now.loaded →
+        Leads (store_of devices.old.outputs.keeper) (store_of devices.new.outputs.keeper)
+        (RunsInside way.is_on) }
 {
-    match texts_in(rt.alloc(), devices) {
-        Some(Ok(texts)) => {
-            let (service, live) = (Service::Line(way.once), LiveFile::Text(&texts.session));
-            let code = serve_on(rt, threads, opened, service, &texts.database, live, devices);
-            drop(texts);
-            code
-        }
-        Some(Err(_)) | None => fail_on(b"Memory", devices),
-    }
-}
-
-/// Returns the texts of the present generation, or `None` if there is no history.
-pub(crate) fn texts_in<R, W, F>(
-    alloc: Global,
-    devices: &Devices<R, W, F, LiveStore<'_>>,
-) -> Option<Result<Texts, HistoryFault>> {
-    let history = devices.outputs.keeper.store.history()?;
-    Some(texts_of(alloc, history))
-}
-
-// Returns the texts of the present generation of a history.
-fn texts_of(alloc: Global, history: &[u8]) -> Result<Texts, HistoryFault> {
-    let present = present_of(alloc, history)?;
-    let Ok(database) = Vec::from_slice(alloc, present.database) else {
-        return Err(HistoryFault::Memory);
+    let Ok(history) = Vec::from_slice(execution.rt.alloc(), history_in(devices)) else {
+        return fail_on(b"Memory", devices);
     };
-    match Vec::from_slice(alloc, present.session) {
-        Ok(session) => Ok(Texts { database, session }),
-        Err(_) => {
-            drop(database);
-            Err(HistoryFault::Memory)
-        }
+    if let Err(fault) = devices.outputs.keeper.store.begin_way() {
+        drop(history);
+        return fail_on(word_of(fault), devices);
     }
+    let code = run_on(execution, way, &history, devices);
+    drop(history);
+    code
 }
 
-// Returns the text of the history that is kept, or an empty text if there is none.
-fn history_in<'d, R, W, F>(devices: &'d Devices<R, W, F, LiveStore<'_>>) -> &'d [u8] {
+// Serves the line of an undo or a redo on the texts of the present generation of this history, in
+// which its session is then kept. Returns the status.
+fn run_on<'x, T: Threads + Wait + Sync, R: Read, W: Write, F: Write>(
+    execution: &Execution<'x, '_, T>,
+    way: Way,
+    history: &[u8],
+    devices: &mut Devices<R, W, F, LiveStore<'x>>,
+) -> u8
+    requires reader { HasFailed devices.old.reader → ⊥ }
+    requires writer { HasFailed devices.old.outputs.writer → ⊥ }
+    ensures { result ≡ 0 → NamesFile execution.now.opened.now.loaded →
+        LeadsOn history.now (store_of devices.new.outputs.keeper) (RunsInside way.is_on) }
+{
+    let Ok(present) = present_of(execution.rt.alloc(), history) else {
+        return fail_on(b"Memory", devices);
+    };
+    let once = way.line();
+    let (service, live) = (Service::Line(&once), LiveFile::Text(present.session));
+    let code = serve_on(execution, service, present.database, live, devices);
+    drop(once);
+    if code != DONE {
+        return code;
+    }
+    if !devices.outputs.keeper.store.was_led_from(history) {
+        return fail_on(b"Strange", devices);
+    }
+    DONE
+}
+
+/// Returns the text of the history that is kept, or an empty text if there is none.
+pub(crate) fn history_in<'d, R, W, F>(devices: &'d Devices<R, W, F, LiveStore<'_>>) -> &'d [u8]
+    ensures { (bytes : List ℕ) → history_held (store_of devices.now.outputs.keeper) ≡ Some bytes
+        → result.now ≡ bytes }
+{
     devices.outputs.keeper.store.history().unwrap_or(&[])
-}
-
-// Returns true if the next step of an undo or a redo crosses a border.
-fn is_border(alloc: Global, history: &[u8], is_on: bool) -> Result<bool, HistoryFault> {
-    match standing_of(alloc, history) {
-        Ok(standing) => Ok(!standing.has_inside(is_on) && standing.has_next(is_on)),
-        Err(fault) => Err(fault),
-    }
-}
-
-/// Returns the status of a command that ended with this code after a part of it was carried out.
-pub(crate) fn hindered(code: u8) -> u8 {
-    if code == REFUSED { HINDERED } else { code }
-}
-
-/// Writes the answer of a command that moved nothing, and returns the status.
-pub(crate) fn say_done<R, W: Write, F: Write, S>(
-    answer: &[u8],
-    devices: &mut Devices<R, W, F, S>,
-) -> u8 {
-    match write_answer(&mut devices.outputs.writer, answer) {
-        Ok(()) => DONE,
-        Err(_) => fail_on(b"Write", devices),
-    }
-}
-
-// Reports a border at which services would have to move, and returns the status. Nothing has moved.
-fn tell_unjoined<R, W, F: Write, S>(
-    alloc: Global,
-    border: usize,
-    devices: &mut Devices<R, W, F, S>,
-) -> u8 {
-    match format!(in alloc; "NotJoined {border}") {
-        Ok(text) => {
-            tell(&mut devices.faults, text.as_bytes());
-            drop(text);
-            REFUSED
-        }
-        Err(_) => fail_on(b"Memory", devices),
-    }
-}
-
-/// Reports a failure, and returns the status.
-pub(crate) fn fail_on<R, W, F: Write, S>(word: &[u8], devices: &mut Devices<R, W, F, S>) -> u8 {
-    tell(&mut devices.faults, word);
-    FAILED
-}
-
-/// Returns the word for a write that failed.
-pub(crate) fn word_of(fault: KeepFault) -> &'static [u8] {
-    match fault {
-        KeepFault::Io => b"Io",
-        KeepFault::Memory => b"Memory",
-    }
 }

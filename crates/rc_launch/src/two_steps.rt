@@ -1,29 +1,36 @@
 //! Commands of two steps, an update and a restart. The state between them is passed. Each first
 //! takes back what was cut short before it: an update all of it, a restart what an undo takes back
 //! without crossing a border.
+ghost use Rattle.std.specs.Prelude.{OnOk};
 ghost use Rattle.rc_streams.specs.Noting.{HasFailed};
 
 use crate::borders::{goes_back_inside, goes_on_behind};
+use crate::execution::Execution;
 use crate::live_store::LiveStore;
-use crate::opened::Opened;
-use crate::serving::{serve, serve_on, serve_update};
-use crate::travel::{Way, fail_on, hindered, say_done, texts_in, travel, word_of};
-use rc_args::{NamedRequest, Once, UpdateRequest};
+use crate::loading::bytes_of;
+use crate::outcomes::{fail_on, hindered, say_done, word_of};
+use crate::serving::{read_of, serve, serve_on, serve_update};
+use crate::travel::{Way, travel};
+use rc_args::{NamedRequest, UpdateRequest};
 use rc_cli::sessions::{Devices, LiveFile, Service};
-use rc_historytext::{HistoryFault, Keeping};
-use rc_script::SessionLine;
-use rc_session::Command;
+use rc_historytext::{HistoryFault, Keeping, present_of};
 use rc_streams::Failure;
 use rc_streams::ending::{DONE, FAILED};
+use std::alloc::Global;
 use std::io::{Read, Write};
 use std::sync::Wait;
 use std::thread::Threads;
 
+/// The texts of a generation.
+#[derive(Drop)]
+struct Texts {
+    database: Vec<u8>,
+    session: Vec<u8>,
+}
+
 /// Carries out an update, and returns the status. Once all is done, makes the current state a stop.
 pub(crate) fn update<'x, T: Threads + Wait + Sync, R: Read, W: Write, F: Write>(
-    rt: &'x HostRuntime,
-    threads: &'x T,
-    opened: &'x Opened<'_>,
+    execution: &Execution<'x, '_, T>,
     request: &UpdateRequest<'_>,
     devices: &mut Devices<R, W, F, LiveStore<'x>>,
 ) -> u8
@@ -31,25 +38,19 @@ pub(crate) fn update<'x, T: Threads + Wait + Sync, R: Read, W: Write, F: Write>(
     requires writer { HasFailed devices.old.outputs.writer → ⊥ }
 {
     let is_cut = match devices.outputs.keeper.store.history() {
-        Some(history) => goes_on_behind(rt.alloc(), history, false),
+        Some(history) => goes_on_behind(execution.rt.alloc(), history, false),
         None => Ok(false),
     };
-    let is_taken = match taken_back(rt, threads, opened, is_cut, devices) {
-        Ok(is_taken) => is_taken,
-        Err(code) => return code,
-    };
-    if devices.reader.failed() || devices.outputs.writer.failed() {
-        return FAILED;
+    match taken_back(execution, is_cut, devices) {
+        Ok(true) => hindered(carry_over(execution, request, devices)),
+        Ok(false) => carry_over(execution, request, devices),
+        Err(code) => code,
     }
-    let code = carry_over(rt, threads, opened, request, devices);
-    if is_taken { hindered(code) } else { code }
 }
 
 /// Carries out a restart, and returns the status.
 pub(crate) fn restart<'x, T: Threads + Wait + Sync, R: Read, W: Write, F: Write>(
-    rt: &'x HostRuntime,
-    threads: &'x T,
-    opened: &'x Opened<'_>,
+    execution: &Execution<'x, '_, T>,
     request: &NamedRequest<'_>,
     devices: &mut Devices<R, W, F, LiveStore<'x>>,
 ) -> u8
@@ -57,68 +58,90 @@ pub(crate) fn restart<'x, T: Threads + Wait + Sync, R: Read, W: Write, F: Write>
     requires writer { HasFailed devices.old.outputs.writer → ⊥ }
 {
     let is_cut = match devices.outputs.keeper.store.history() {
-        Some(history) => goes_back_inside(rt.alloc(), history),
+        Some(history) => goes_back_inside(execution.rt.alloc(), history),
         None => Ok(false),
     };
-    let is_taken = match taken_back(rt, threads, opened, is_cut, devices) {
-        Ok(is_taken) => is_taken,
-        Err(code) => return code,
-    };
-    if devices.reader.failed() || devices.outputs.writer.failed() {
-        return FAILED;
+    match taken_back(execution, is_cut, devices) {
+        Ok(true) => hindered(serve_restart(execution, request, devices)),
+        Ok(false) => serve_restart(execution, request, devices),
+        Err(code) => code,
     }
-    let code = serve_restart(rt, threads, opened, request, devices);
-    if is_taken { hindered(code) } else { code }
+}
+
+// Undoes what was cut short, if something was. Returns true if it was, or the status of an undo
+// that was not done.
+fn taken_back<'x, T: Threads + Wait + Sync, R: Read, W: Write, F: Write>(
+    execution: &Execution<'x, '_, T>,
+    is_cut: Result<bool, HistoryFault>,
+    devices: &mut Devices<R, W, F, LiveStore<'x>>,
+) -> Result<bool, u8>
+    requires reader { HasFailed devices.old.reader → ⊥ }
+    requires writer { HasFailed devices.old.outputs.writer → ⊥ }
+    ensures reader { OnOk result (HasFailed devices.new.reader → ⊥) }
+    ensures writer { OnOk result (HasFailed devices.new.outputs.writer → ⊥) }
+{
+    match is_cut {
+        Ok(true) => {}
+        Ok(false) => return Ok(false),
+        Err(_) => return Err(fail_on(b"Memory", devices)),
+    }
+    let way = Way {
+        is_on: false,
+        limit: u32::MAX,
+    };
+    let code = travel(execution, way, devices);
+    devices.outputs.keeper.store.keep_as(Keeping::Step);
+    if code != DONE {
+        return Err(code);
+    }
+    if devices.reader.failed() || devices.outputs.writer.failed() {
+        return Err(FAILED);
+    }
+    Ok(true)
 }
 
 // Serves a restart in the present generation, and returns the status.
 fn serve_restart<'x, T: Threads + Wait + Sync, R: Read, W: Write, F: Write>(
-    rt: &'x HostRuntime,
-    threads: &'x T,
-    opened: &'x Opened<'_>,
+    execution: &Execution<'x, '_, T>,
     request: &NamedRequest<'_>,
     devices: &mut Devices<R, W, F, LiveStore<'x>>,
 ) -> u8
     requires reader { HasFailed devices.old.reader → ⊥ }
     requires writer { HasFailed devices.old.outputs.writer → ⊥ }
 {
-    match texts_in(rt.alloc(), devices) {
+    match texts_in(execution.rt.alloc(), devices) {
         Some(Ok(texts)) => {
-            let (service, live) = (
-                Service::Restart(&request.names),
-                LiveFile::Text(&texts.session),
-            );
-            let code = serve_on(rt, threads, opened, service, &texts.database, live, devices);
+            let service = Service::Restart(&request.names);
+            let live = LiveFile::Text(&texts.session);
+            let code = serve_on(execution, service, &texts.database, live, devices);
             drop(texts);
             code
         }
         Some(Err(_)) => fail_on(b"Memory", devices),
-        None => serve(rt, threads, opened, devices).code(),
+        None => serve(execution.rt, execution.threads, execution.opened, devices).code(),
     }
 }
 
 // Carries the session over to the new database, and returns the status. If the history stands in
 // that database already, and there are no conversions, it is not entered.
 fn carry_over<'x, T: Threads + Wait + Sync, R: Read, W: Write, F: Write>(
-    rt: &'x HostRuntime,
-    threads: &'x T,
-    opened: &'x Opened<'_>,
+    execution: &Execution<'x, '_, T>,
     request: &UpdateRequest<'_>,
     devices: &mut Devices<R, W, F, LiveStore<'x>>,
 ) -> u8
     requires reader { HasFailed devices.old.reader → ⊥ }
     requires writer { HasFailed devices.old.outputs.writer → ⊥ }
 {
-    let Some(texts) = texts_in(rt.alloc(), devices) else {
-        return settled(
-            serve_update(rt, threads, opened, request, None, devices),
-            devices,
-        );
+    let Some(texts) = texts_in(execution.rt.alloc(), devices) else {
+        let opened = execution.opened;
+        let base = bytes_of(&opened.loaded.base);
+        let code = serve_update(execution, request, base, read_of(opened), devices);
+        return settled(code, devices);
     };
     let Ok(texts) = texts else {
         return fail_on(b"Memory", devices);
     };
-    let is_same = match opened.new_base() {
+    let is_same = match execution.opened.new_base() {
         Some(new) => new.bytes() == texts.database.as_slice(),
         None => false,
     };
@@ -126,44 +149,10 @@ fn carry_over<'x, T: Threads + Wait + Sync, R: Read, W: Write, F: Write>(
         drop(texts);
         return say_done(b"ok\nok\n", devices);
     }
-    let place = Some((texts.database.as_slice(), texts.session.as_slice()));
-    let code = serve_update(rt, threads, opened, request, place, devices);
+    let live = LiveFile::Text(&texts.session);
+    let code = serve_update(execution, request, &texts.database, live, devices);
     drop(texts);
     settled(code, devices)
-}
-
-// Undoes what was cut short, if something was. Returns true if it was, or the status of an undo
-// that was not done.
-fn taken_back<'x, T: Threads + Wait + Sync, R: Read, W: Write, F: Write>(
-    rt: &'x HostRuntime,
-    threads: &'x T,
-    opened: &'x Opened<'_>,
-    is_cut: Result<bool, HistoryFault>,
-    devices: &mut Devices<R, W, F, LiveStore<'x>>,
-) -> Result<bool, u8>
-    requires reader { HasFailed devices.old.reader → ⊥ }
-    requires writer { HasFailed devices.old.outputs.writer → ⊥ }
-{
-    match is_cut {
-        Ok(true) => {}
-        Ok(false) => return Ok(false),
-        Err(_) => return Err(fail_on(b"Memory", devices)),
-    }
-    let once = Once::Line(SessionLine::Command(Command::Undo(u32::MAX)));
-    let way = Way {
-        once: &once,
-        is_on: false,
-        is_dry: false,
-    };
-    devices.outputs.keeper.store.keep_as(Keeping::Way);
-    let code = if devices.reader.failed() || devices.outputs.writer.failed() {
-        FAILED
-    } else {
-        travel(rt, threads, opened, way, devices)
-    };
-    devices.outputs.keeper.store.keep_as(Keeping::Step);
-    drop(once);
-    if code == DONE { Ok(true) } else { Err(code) }
 }
 
 // Turns the state to which a command of several steps has come into a stop, if all is done. Returns
@@ -175,5 +164,29 @@ fn settled<R, W, F: Write>(code: u8, devices: &mut Devices<R, W, F, LiveStore<'_
     match devices.outputs.keeper.store.settle() {
         Ok(()) => DONE,
         Err(fault) => fail_on(word_of(fault), devices),
+    }
+}
+
+// Returns the texts of the present generation, or `None` if there is no history.
+fn texts_in<R, W, F>(
+    alloc: Global,
+    devices: &Devices<R, W, F, LiveStore<'_>>,
+) -> Option<Result<Texts, HistoryFault>> {
+    let history = devices.outputs.keeper.store.history()?;
+    Some(texts_of(alloc, history))
+}
+
+// Returns the texts of the present generation of a history.
+fn texts_of(alloc: Global, history: &[u8]) -> Result<Texts, HistoryFault> {
+    let present = present_of(alloc, history)?;
+    let Ok(database) = Vec::from_slice(alloc, present.database) else {
+        return Err(HistoryFault::Memory);
+    };
+    match Vec::from_slice(alloc, present.session) {
+        Ok(session) => Ok(Texts { database, session }),
+        Err(_) => {
+            drop(database);
+            Err(HistoryFault::Memory)
+        }
     }
 }

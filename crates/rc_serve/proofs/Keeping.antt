@@ -1,8 +1,9 @@
 -- What is kept as lines are met, and that the line of states has altered exactly where its current
 -- state has.
-use Rattle.std.proofs.Common.{◌≡◌, ◌≢◌, ◌∙◌, ◌⊎◌, ◌↔◌, inl, inr, ℕ, Bool, true, false, IsTrue, List}
-use Rattle.std.proofs.Common.{[], ◌∷◌, ◌++◌, Result, Ok, Err, IfErr, refl, ap, sym, subst}
-use Rattle.std.proofs.Common.{append_assoc, length}
+use Rattle.std.proofs.Common.{◌≡◌, ◌≢◌, ◌∙◌, ◌⊎◌, ◌↔◌, inl, inr, ℕ, Bool, List, [], ◌∷◌, ◌++◌}
+use Rattle.std.proofs.Common.{Option, Some, None, Result, Ok, Err, IfErr, IfOk, IsTrue, true, false}
+use Rattle.std.proofs.Common.{refl, ap, sym, subst, append_assoc, length}
+use Rattle.std.specs.Prelude.{MatchOption, MatchResult}
 use Rattle.rc_graph.specs.declared.Way.{Way}
 use Rattle.rc_model.specs.declared.Outcome.{Outcome}
 use Rattle.rc_model.specs.Database.{Bundles, Database}
@@ -18,11 +19,30 @@ use Rattle.rc_serve.specs.declared.fault.ServeFault.TheVariants.{Read, Write, To
 use Rattle.rc_serve.specs.declared.fault.ServeFault.TheVariants.{NoThread, Strange, Workers, Io}
 use Rattle.rc_serve.specs.declared.keeper.KeepFault.{KeepFault}
 use Rattle.rc_serve.specs.declared.keeper.KeepFault.TheVariants as keep
+use Rattle.rc_script.specs.Says.{Saying, SaysNothing, SaysWrong, SaysStep, SaysDry, SaysLive}
+use Rattle.rc_script.specs.Says.{SaysBundles, SaysJournal}
+use Rattle.rc_serve.specs.declared.ending.Answer.{Answer}
 use Rattle.rc_serve.specs.Faults.{EndsSession, IsSpoiledBy, Spoils}
-use Rattle.rc_serve.specs.Keeping.{Keeping, EndsLine, IsKeptOn, IsKeptOrFails, IsKeptUp}
-use Rattle.rc_serve.specs.Keeping.{IsOfKeeping, KeepsLine, of_keeping}
-use Rattle.rc_serve.specs.Meeting.{IsDoneBy, MayMeet}
-use Rattle.rc_serve.proofs.Hindering.{ends_as}
+use Rattle.rc_serve.specs.Keeping.{Keeping, IsBefore, IsKeptAs, IsKeptOn, IsKeptUp, IsOfKeeping}
+use Rattle.rc_serve.specs.Keeping.{IsStill, of_keeping}
+use Rattle.rc_serve.specs.Meeting.{IsDoneBy, MayMeet, MayMeetSaying}
+
+-- where a line ends the session, what it leaves is kept, or keeping it has failed, and what was
+-- kept is kept
+abbrev pub IsKeptOrFails : ServeFault → (May : KeepFault → Type 0) → (was is : Keeping) → Database
+    → (here line : Line) → Type 0
+IsKeptOrFails fault May was is d here line =
+    IsKeptUp was is d here line ⊎ (IsOfKeeping May fault × IsKeptOn was is)
+
+-- what a line leaves is kept before its answer is handed out
+abbrev pub KeepsLine : {A : Type 0} → Result A ServeFault → (May : KeepFault → Type 0)
+    → (was is : Keeping) → Database → (here line : Line) → Type 0
+KeepsLine result May was is d here line = MatchResult result
+    (λ _. IsKeptUp was is d here line) (λ fault. IsKeptOrFails fault May was is d here line)
+
+-- a line ends the session, as it could not be kept or as else
+abbrev pub EndsLine : (keeper work : Type 0) → (old new : Holding) → ServeFault → Type 0
+EndsLine keeper work old new fault = ((fault ≡ Io) × keeper) ⊎ EndsSession work old new fault
 
 pub kept_on : (k : Keeping) → IsKeptOn k k
 kept_on k d line = (λ x. x, λ x. x)
@@ -85,6 +105,12 @@ redo_still line live new is (on, next, inr (inr moves)) same =
     (sym (ap (λ (l : Line). l.current) moves.2
     ∙ fitted_current (put_between line (with_live line live) on)) ∙ same)))
 
+-- a state by its parts
+same_state : (a b : State) → a.live ≡ b.live → a.table ≡ b.table → a ≡ b
+same_state a b live table =
+    ap (λ (set : List Bool). record { live = set; table = a.table }) live
+    ∙ ap (λ (t : Bundles). record { live = b.live; table = t }) table
+
 module _ (workers : ℕ) (Answers : ℕ → Way → Outcome → Type 0) (Gives : ℕ → Type 0) (d : Database)
     (here : Line) (of : IsLineOf d here) where
   done_still : (command : Command) (text : List ℕ) (new : Line)
@@ -102,46 +128,93 @@ module _ (workers : ℕ) (Answers : ℕ → Way → Outcome → Type 0) (Gives :
   done_still command text new (events, told, made, inr edit, is) same =
       ends_still here (record { live = here.current.live; table = edit.table }) new edit.moved same
 
-  -- where the current state is as it was, so is the line
-  pub met_still : (command : Command) (new : Line)
+  met_still : (command : Command) (new : Line)
       → MayMeet (IsDoneBy workers Answers Gives) d here command new → new.current ≡ here.current
       → new ≡ here
   met_still command new (inl still) same = still
   met_still command new (inr (text, inl done)) same = done_still command text new done same
   met_still command new (inr (text, inr refused)) same = refused.3
 
--- a state by its parts
-pub same_state : (a b : State) → a.live ≡ b.live → a.table ≡ b.table → a ≡ b
-same_state a b live table =
-    ap (λ (set : List Bool). record { live = set; table = a.table }) live
-    ∙ ap (λ (t : Bundles). record { live = b.live; table = t }) table
+  step_still : (before : Option (List Bool × Bundles)) (command : Command) (new : Line)
+      → IsBefore before (SaysStep command) here
+      → MayMeet (IsDoneBy workers Answers Gives) d here command new → IsStill before new
+      → new ≡ here
+  step_still None command new begins may still = absurd (begins command refl)
+  step_still (Some state) command new begins may still =
+      met_still command new may
+      (same_state new.current here.current (still.0 ∙ begins.0) (still.1 ∙ begins.1))
 
--- a line whose current state is another has altered
-pub is_altered : (test : Bool) (was line : Line) (live : List Bool) (table : Bundles)
+  -- where the current state is as it was before, so is the line
+  pub line_still : (before : Option (List Bool × Bundles)) (saying : Saying) (new : Line)
+      → IsBefore before saying here
+      → MayMeetSaying (IsDoneBy workers Answers Gives) d here saying new → IsStill before new
+      → new ≡ here
+  line_still before (SaysStep command) new begins may still =
+      step_still before command new begins may still
+  line_still before SaysNothing new begins (inl same) still = same
+  line_still before SaysNothing new begins (inr met) still = met.1.1
+  line_still before SaysWrong new begins (inl same) still = same
+  line_still before SaysWrong new begins (inr met) still = met.1.1
+  line_still before (SaysDry ask) new begins (inl same) still = same
+  line_still before (SaysDry ask) new begins (inr met) still = met.1.1
+  line_still before SaysLive new begins (inl same) still = same
+  line_still before SaysLive new begins (inr met) still = met.1.1
+  line_still before SaysBundles new begins (inl same) still = same
+  line_still before SaysBundles new begins (inr met) still = met.1.1
+  line_still before SaysJournal new begins (inl same) still = same
+  line_still before SaysJournal new begins (inr met) still = met.1.1
+
+-- a line whose current state is another than before has altered
+pub is_altered : (before : Option (List Bool × Bundles)) (saying : Saying) (here new : Line)
+    → IsBefore before saying here → (IsStill before new → ⊥) → new ≡ here → ⊥
+is_altered None saying here new begins other same = other tt
+is_altered (Some state) saying here new begins other same = other (
+  ap (λ (l : Line). l.current.live) same ∙ sym begins.0,
+  ap (λ (l : Line). l.current.table) same ∙ sym begins.1,
+)
+
+-- where there is no state from before, none is another
+pub still_none : (before : Option (List Bool × Bundles)) (line : Line)
+    → ((state : List Bool × Bundles) → before ≡ Some state → ⊥) → IsStill before line
+still_none None line never = tt
+still_none (Some state) line never = absurd (never state refl)
+
+-- where there is one, it is compared
+pub still_as : (before : Option (List Bool × Bundles)) (live : List Bool) (table : Bundles)
+    (line : Line) → before ≡ Some (live, table)
+    → ((line.current.live ≡ live) × (line.current.table ≡ table)) ↔ IsStill before line
+still_as before live table line is =
+    subst (λ (b : Option (List Bool × Bundles)).
+    ((line.current.live ≡ live) × (line.current.table ≡ table)) ↔ IsStill b line) (sym is)
+    (λ x. x, λ x. x)
+
+-- and is another where the test says so
+pub other_as : (before : Option (List Bool × Bundles)) (live : List Bool) (table : Bundles)
+    (line : Line) (test : Bool) → before ≡ Some (live, table)
     → (IsTrue test ↔ ((line.current.live ≡ live) × (line.current.table ≡ table)))
-    → live ≡ was.current.live → table ≡ was.current.table → test ≡ false → line ≡ was → ⊥
-is_altered test was line live table so lives tables other same =
-    let bad : true ≡ false = sym (so.1 (
-      ap (λ (l : Line). l.current.live) same ∙ sym lives,
-      ap (λ (l : Line). l.current.table) same ∙ sym tables,
-    )) ∙ other in
-    cc
+    → test ≡ false → IsStill before line → ⊥
+other_as before live table line test is so other still =
+    let bad : true ≡ false = sym (so.1 ((still_as before live table line is).1 still)) ∙ other in cc
 
 -- both live sets are of the same services
-pub same_size : (d e : Database) (here line : Line) → e ≡ d → IsLineOf d here → IsLineOf e line
-    → length line.current.live ≡ length here.current.live
-same_size d e here line same of is = (current_state e line is).bound
-    ∙ ap (λ (b : Database). length b.names) same ∙ sym (current_state d here of).bound
+pub same_size : (before : Option (List Bool × Bundles)) (saying : Saying) (d e : Database)
+    (here line : Line) → IsBefore before saying here → e ≡ d → IsLineOf d here → IsLineOf e line
+    → MatchOption before (Unit {0}) (λ state. length state.0 ≡ length line.current.live)
+same_size None saying d e here line begins same of is = tt
+same_size (Some state) saying d e here line begins same of is =
+    ap length begins.0
+    ∙ sym ((current_state e line is).bound ∙ ap (λ (b : Database). length b.names) same
+    ∙ sym (current_state d here of).bound)
 
 -- what a line leaves where it is as it was
-pub line_still : {A : Type 0} (result : Result A ServeFault) (May : KeepFault → Type 0)
+still_keeps : {A : Type 0} (result : Result A ServeFault) (May : KeepFault → Type 0)
     (k : Keeping) (d : Database) (here line : Line) → line ≡ here
     → KeepsLine result May k k d here line
-line_still (Ok a) May k d here line still = inr (kept_on k, still)
-line_still (Err fault) May k d here line still = inl (inr (kept_on k, still))
+still_keeps (Ok a) May k d here line still = inr (kept_on k, still)
+still_keeps (Err fault) May k d here line still = inl (inr (kept_on k, still))
 
 -- and where it was kept
-pub line_kept : {A : Type 0} (result : Result A ServeFault) (May : KeepFault → Type 0)
+line_kept : {A : Type 0} (result : Result A ServeFault) (May : KeepFault → Type 0)
     (was is : Keeping) (d e : Database) (here line : Line) → e ≡ d → is e line
     → KeepsLine result May was is d here line
 line_kept (Ok a) May was is d e here line same kept =
@@ -155,7 +228,7 @@ of_keeping_is : (May : KeepFault → Type 0) (fault : KeepFault) → May fault
 of_keeping_is May keep.Io so = so
 of_keeping_is May keep.Memory so = so
 
-pub keep_failed : (May : KeepFault → Type 0) (fault : KeepFault) (was is : Keeping) (d e : Database)
+keep_failed : (May : KeepFault → Type 0) (fault : KeepFault) (was is : Keeping) (d e : Database)
     (here line : Line)
     → e ≡ d → May fault → IsKeptOn was is ⊎ is e line
     → IsKeptOrFails (of_keeping fault) May was is d here line
@@ -163,28 +236,20 @@ keep_failed May fault was is d e here line same so (inl on) = inr (of_keeping_is
 keep_failed May fault was is d e here line same so (inr kept) =
     inl (inl (subst (λ (b : Database). is b line) same kept))
 
-pub keep_ends : (failed work : Type 0) (fault : KeepFault) (old new : Holding)
+keep_ends : (failed work : Type 0) (fault : KeepFault) (old new : Holding)
     → (fault ≡ keep.Io → failed) → EndsLine failed work old new (of_keeping fault)
 keep_ends failed work keep.Io old new so = inl (refl, so refl)
 keep_ends failed work keep.Memory old new so = inr tt
 
 -- a fault of a command is one of a line
-pub ends_line : {A : Type 0} (keeper work : Type 0) (result : Result A ServeFault)
+ends_line : {A : Type 0} (keeper work : Type 0) (result : Result A ServeFault)
     (old new : Holding) → IfErr result (EndsSession work old new)
     → IfErr result (EndsLine keeper work old new)
 ends_line keeper work (Ok a) old new end = tt
 ends_line keeper work (Err fault) old new end = inr end
 
-pub ends_line_as : {A : Type 0} (keeper P Q : Type 0) (result : Result A ServeFault)
-    (old new : Holding) → (P → Q) → IfErr result (EndsLine keeper P old new)
-    → IfErr result (EndsLine keeper Q old new)
-ends_line_as keeper P Q (Ok a) old new more end = tt
-ends_line_as keeper P Q (Err fault) old new more (inl io) = inl io
-ends_line_as {A} keeper P Q (Err fault) old new more (inr end) =
-    inr (ends_as {A = A} P Q old new (Err fault) more end)
-
 -- a line that has altered was no strange one
-pub altered_sound : {A : Type 0} (work : Type 0) (result : Result A ServeFault) (old new : Holding)
+altered_sound : {A : Type 0} (work : Type 0) (result : Result A ServeFault) (old new : Holding)
     → IfErr result (EndsSession work old new) → IsSpoiledBy result old new
     → (new.line ≡ old.line → ⊥) → new.spoiled ≡ old.spoiled
 altered_sound work (Ok a) old new end spoils moved = spoils
@@ -197,7 +262,71 @@ altered_sound work (Err Strange) old new end spoils moved = absurd (moved end.1)
 altered_sound work (Err Workers) old new end spoils moved = spoils
 altered_sound work (Err Io) old new end spoils moved = spoils
 
-pub keep_spoils : (fault : KeepFault) (old new : Holding) → new.spoiled ≡ old.spoiled
+keep_spoils : (fault : KeepFault) (old new : Holding) → new.spoiled ≡ old.spoiled
     → Spoils (of_keeping fault) old new
 keep_spoils keep.Io old new same = same
 keep_spoils keep.Memory old new same = same
+
+-- what a line that was carried out leaves, as its answer is handed on
+pub record IsHanded {S : Type 0} (keeps : S → Keeping) (failed : S → Type 0)
+    (May : KeepFault → Type 0) (was is : S) (old new : Holding) (work : Type 0)
+    (Good : Answer → Type 0) (result : Result Answer ServeFault) : Type 0 where
+  pub kept : KeepsLine result May (keeps was) (keeps is) old.database old.line new.line
+  pub good : IfOk result Good
+  pub ends : IfErr result (EndsLine (failed is) work old new)
+  pub spoils : IsSpoiledBy result old new
+  pub unaltered : new.line ≡ old.line → is ≡ was
+
+-- it is handed on where nothing was altered, or as what was altered is kept
+pub handed_on : {S : Type 0} (keeps : S → Keeping) (failed : S → Type 0)
+    (May : KeepFault → Type 0) (was is : S) (before : Option (List Bool × Bundles))
+    (saying : Saying) (old new : Holding) (work : Type 0) (Good : Answer → Type 0)
+    (answer result shown : Result Answer ServeFault) → IsBefore before saying old.line
+    → new.database ≡ old.database → (IsStill before new.line → new.line ≡ old.line)
+    → (IsStill before new.line × (result ≡ answer) × (is ≡ was))
+    ⊎ ((IsStill before new.line → ⊥) × IsKeptAs answer result May (failed is) (keeps was)
+    (keeps is) new.database new.line) → IfOk answer Good
+    → IfErr answer (EndsSession work old new) → IsSpoiledBy answer old new → result ≡ shown
+    → IsHanded keeps failed May was is old new work Good shown
+handed_on {S} keeps failed May was is before saying old new work Good answer result shown begins
+    same still (inl (on, handed, unkept)) good ends spoils shows =
+    subst (λ (r : Result Answer ServeFault). IsHanded keeps failed May was is old new work Good r)
+    (sym handed ∙ shows) (record {
+      kept =
+          subst (λ (k : S). KeepsLine answer May (keeps was) (keeps k) old.database old.line
+          new.line) (sym unkept)
+          (still_keeps answer May (keeps was) old.database old.line new.line (still on));
+      good = good;
+      ends = ends_line (failed is) work answer old new ends;
+      spoils = spoils;
+      unaltered = λ unmoved. unkept;
+    })
+handed_on {S} keeps failed May was is before saying old new work Good answer result shown begins
+    same still (inr (altered, inl (handed, kept))) good ends spoils shows =
+    subst (λ (r : Result Answer ServeFault). IsHanded keeps failed May was is old new work Good r)
+    (sym handed ∙ shows) (record {
+      kept =
+          line_kept answer May (keeps was) (keeps is) old.database new.database old.line new.line
+          same kept;
+      good = good;
+      ends = ends_line (failed is) work answer old new ends;
+      spoils = spoils;
+      unaltered = λ unmoved.
+          absurd (is_altered before saying old.line new.line begins altered unmoved);
+    })
+handed_on {S} keeps failed May was is before saying old new work Good answer result shown begins
+    same still (inr (altered, inr (fault, is_err, may, io, left))) good ends spoils shows =
+    subst (λ (r : Result Answer ServeFault). IsHanded keeps failed May was is old new work Good r)
+    (sym is_err ∙ shows) (record {
+      kept =
+          keep_failed May fault (keeps was) (keeps is) old.database new.database old.line new.line
+          same may left;
+      good = tt;
+      ends = keep_ends (failed is) work fault old new io;
+      spoils =
+          keep_spoils fault old new
+          (altered_sound work answer old new ends spoils
+          (is_altered before saying old.line new.line begins altered));
+      unaltered = λ unmoved.
+          absurd (is_altered before saying old.line new.line begins altered unmoved);
+    })

@@ -14,7 +14,7 @@ use Rattle.rc_render.specs.Lines.{line}
 use Rattle.rc_render.proofs.LineLemmas.{one_more}
 use Rattle.rc_streams.specs.Exchange.{Exchange}
 use Rattle.rc_streams.specs.Input.{AppendsFront, ConsumesAtMost}
-use Rattle.rc_streams.specs.Taking.{Held, BeginsTooLong, HandsLine, HandsOut, IsLine, LacksLine}
+use Rattle.rc_streams.specs.Taking.{Held, BeginsTooLong, HandsLine, HandsNothing, HandsOut, IsLine}
 use Rattle.rc_streams.specs.Taking.{Takes, fresh}
 use Rattle.rc_streams.specs.declared.input.Failure.{Failure}
 use Rattle.rc_streams.specs.declared.input.Failure.TheVariants as failures
@@ -24,11 +24,42 @@ use Rattle.rc_serve.specs.declared.fault.ServeFault.TheVariants.{NoThread, Stran
 use Rattle.rc_serve.specs.declared.keeper.KeepFault.{KeepFault}
 use Rattle.rc_serve.specs.Faults.{EndsSession, IsOfLine, IsServeFault, Spoils, StandsAt, of_failure}
 use Rattle.rc_serve.specs.Meeting.{Doing}
-use Rattle.rc_serve.specs.Serving.{AreLines, BytesWantWork, IsServing, MayMeetBytes, MeetsBytes}
-use Rattle.rc_serve.specs.Serving.{NextWantsWork, Serves, ServesAll, ServesFront, ServesNext, Stays}
-use Rattle.rc_serve.specs.Keeping.{AltersNone, Keeping, EndsLine, IsKeptAt, IsKeptOn, IsKeptOrFails}
-use Rattle.rc_serve.specs.Keeping.{IsKeptUp, IsOfKeeping, ServesFrontKept, StopsAt}
-use Rattle.rc_serve.proofs.Keeping.{kept_more, kept_none}
+use Rattle.rc_serve.specs.Serving.{AreLines, IsServing, MeetsBytes, NextWantsWork, Serves}
+use Rattle.rc_serve.specs.Serving.{ServesAll, ServesFront, Stays}
+use Rattle.rc_serve.specs.Keeping.{AltersNone, Keeping, IsKeptAt, IsKeptOn, IsKeptUp, IsOfKeeping}
+use Rattle.rc_serve.specs.Keeping.{ServesFrontKept}
+use Rattle.rc_serve.proofs.Keeping.{EndsLine, IsKeptOrFails, kept_more, kept_none}
+
+-- the next line of the input was met, and its answer written; where none follows, that was
+-- the last one, or there was none
+abbrev pub ServesNext : Doing → (more : Bool) → Exchange → Held → Held → Holding → Holding → Type 0
+ServesNext Done true io before after old new = (bytes : List ℕ) × (text : List ℕ)
+    × HandsLine true io.input io.left before after bytes
+    × MeetsBytes Done old.database old.line bytes text new.line × Appends io.written io.gained text
+ServesNext Done false io before after old new =
+    ((bytes : List ℕ) × (text : List ℕ) × HandsLine false io.input io.left before after bytes
+    × MeetsBytes Done old.database old.line bytes text new.line × Appends io.written io.gained text)
+    ⊎ (HandsNothing io.input io.left before after × (new.line ≡ old.line)
+    × (io.gained ≡ io.written))
+
+-- a fault came: with no further line met, nothing written, and what stands kept as it was; or with
+-- one more met, and a prefix of its answer written, of which there is something only where what it
+-- leaves is kept
+abbrev pub StopsAt : Doing → ServeFault → (May : KeepFault → Type 0) → (was is : Keeping)
+    → Exchange → Held → Held → Holding → Holding → Type 0
+StopsAt Done fault May was is io before after old new =
+    ((takes : Takes io.input io.left before.taken after.taken) × (new.line ≡ old.line)
+    × (io.gained ≡ io.written)
+    × StandsAt fault (old.spoiled ≡ true)
+    (NextWantsWork old.database old.line (before.pending ++ takes.bytes))
+    after.taken (before.pending ++ takes.bytes)
+    × IsKeptUp was is old.database old.line new.line)
+    ⊎ (IsOfLine fault × (ends : Bool) × (bytes : List ℕ) × (text : List ℕ)
+    × HandsLine ends io.input io.left before after bytes
+    × MeetsBytes Done old.database old.line bytes text new.line
+    × (n : ℕ) × Appends io.written io.gained (take n text)
+    × (IsKeptUp was is old.database old.line new.line
+    ⊎ (IsOfKeeping May fault × (n ≡ 0) × IsKeptOn was is)))
 
 -- the exchange of these
 abbrev pub over : (input left written gained : Option (List ℕ)) → Exchange
@@ -189,7 +220,7 @@ serves_all Done input here left held after written mid gained old now new so (in
     }
 
 -- a fault stands for other reasons that follow, where as many bytes were read
-stands_as : (fault : ServeFault) (P Q W X : Type 0) (taken count : ℕ) (rest : List ℕ) → (P → Q)
+pub stands_as : (fault : ServeFault) (P Q W X : Type 0) (taken count : ℕ) (rest : List ℕ) → (P → Q)
     → (W → X) → taken ≡ count → StandsAt fault P W taken rest → StandsAt fault Q X count rest
 stands_as Read P Q W X taken count rest spoiled work is stands =
     (stands.0, omega (arith, is, stands.1))
@@ -374,7 +405,7 @@ serves_front Done fault May first was is input here left held after written mid 
     ends bytes text of so handed met (n, told) keeps before
 
 -- the line that was handed out is the next one of what was held and read
-next_line : (ends : Bool) (input left : Option (List ℕ)) (held after : Held) (bytes : List ℕ)
+pub next_line : (ends : Bool) (input left : Option (List ℕ)) (held after : Held) (bytes : List ℕ)
     → HandsLine ends input left held after bytes
     → (takes : Takes input left held.taken after.taken) × (rest : List ℕ)
     × AreLines (bytes ∷ []) (held.pending ++ takes.bytes) rest
@@ -415,126 +446,11 @@ pub unwritten_kept : (fault : ServeFault) (May : KeepFault → Type 0) (was is :
 unwritten_kept fault May was is d here new (inl kept) = inl kept
 unwritten_kept fault May was is d here new (inr failed) = inr (failed.0, refl, failed.1)
 
--- a line was handed out, and no answer came of it
-ends_short : (Done : Doing) (fault : ServeFault) (May : KeepFault → Type 0) (was is : Keeping)
-    (ends : Bool) (input left : Option (List ℕ)) (held after : Held) (written : Option (List ℕ))
-    (old new : Holding) (bytes : List ℕ) → HandsLine ends input left held after bytes
-    → Takes input left held.taken after.taken
-    → MayMeetBytes Done old.database old.line bytes new.line
-    → IsKeptOrFails fault May was is old.database old.line new.line
-    → EndsSession (BytesWantWork old.database old.line bytes) old new fault
-    → StopsAt Done fault May was is (over input left written written) held after old new
-ends_short Done Read May was is ends input left held after written old new bytes handed takes may
-    keeps end = absurd end
-ends_short Done Write May was is ends input left held after written old new bytes handed takes may
-    keeps end = absurd end
-ends_short Done TooLong May was is ends input left held after written old new bytes handed takes may
-    keeps end = absurd end
-ends_short Done Memory May was is ends input left held after written old new bytes handed takes
-    (inl same) keeps end =
-    inl (
-      takes,
-      same,
-      refl,
-      tt,
-      still_kept Memory May was is old.database old.line new.line same keeps,
-    )
-ends_short Done Memory May was is ends input left held after written old new bytes handed takes
-    (inr met) keeps end = inr (
-      tt,
-      ends,
-      bytes,
-      met.0,
-      handed,
-      met.1,
-      0,
-      Appends-nil written,
-      unwritten_kept Memory May was is old.database old.line new.line keeps,
-    )
-ends_short Done NoThread May was is ends input left held after written old new bytes handed takes
-    may keeps end =
-    let (taken, rest, spelled) = next_line ends input left held after bytes handed in
-    inl (
-      taken,
-      end.1,
-      refl,
-      (bytes, rest, spelled, end.0),
-      still_kept NoThread May was is old.database old.line new.line end.1 keeps,
-    )
-ends_short Done Strange May was is ends input left held after written old new bytes handed takes
-    may keeps end =
-    let (taken, rest, spelled) = next_line ends input left held after bytes handed in
-    inl (
-      taken,
-      end.1,
-      refl,
-      elim end.0 [
-        | inl spoiled ↦ inl spoiled
-        | inr work ↦ inr (bytes, rest, spelled, work)
-      ],
-      still_kept Strange May was is old.database old.line new.line end.1 keeps,
-    )
-ends_short Done Workers May was is ends input left held after written old new bytes handed takes may
-    keeps end = absurd end
-ends_short Done Io May was is ends input left held after written old new bytes handed takes may
-    keeps end = absurd end
-
-io_short : (Done : Doing) (May : KeepFault → Type 0) (was is : Keeping) (ends : Bool)
-    (input left : Option (List ℕ)) (held after : Held) (written : Option (List ℕ))
-    (old new : Holding) (bytes : List ℕ) → HandsLine ends input left held after bytes
-    → Takes input left held.taken after.taken
-    → MayMeetBytes Done old.database old.line bytes new.line
-    → IsKeptOrFails Io May was is old.database old.line new.line
-    → StopsAt Done Io May was is (over input left written written) held after old new
-io_short Done May was is ends input left held after written old new bytes handed takes (inl same)
-    keeps =
-    inl (takes, same, refl, tt, still_kept Io May was is old.database old.line new.line same keeps)
-io_short Done May was is ends input left held after written old new bytes handed takes (inr met)
-    keeps = inr (
-      tt,
-      ends,
-      bytes,
-      met.0,
-      handed,
-      met.1,
-      0,
-      Appends-nil written,
-      unwritten_kept Io May was is old.database old.line new.line keeps,
-    )
-
-pub stops_short : (Done : Doing) (fault : ServeFault) (May : KeepFault → Type 0) (was is : Keeping)
-    (keeper : Type 0) (ends : Bool) (input left : Option (List ℕ)) (held after : Held)
-    (written : Option (List ℕ)) (old new : Holding) (bytes : List ℕ)
-    → HandsLine ends input left held after bytes → Takes input left held.taken after.taken
-    → MayMeetBytes Done old.database old.line bytes new.line
-    → IsKeptOrFails fault May was is old.database old.line new.line
-    → EndsLine keeper (BytesWantWork old.database old.line bytes) old new fault
-    → StopsAt Done fault May was is (over input left written written) held after old new
-stops_short Done fault May was is keeper ends input left held after written old new bytes handed
-    takes may keeps (inl io) =
-    subst (λ (f : ServeFault). StopsAt Done f May was is (over input left written written) held
-    after old new) (sym io.0)
-    (io_short Done May was is ends input left held after written old new bytes handed takes may
-    (subst (λ (f : ServeFault). IsKeptOrFails f May was is old.database old.line new.line) io.0
-    keeps))
-stops_short Done fault May was is keeper ends input left held after written old new bytes handed
-    takes may keeps (inr end) = ends_short Done fault May was is ends input left held after written
-    old new bytes handed takes may keeps end
-
 -- the answer could not be written
 pub write_fault : {A : Type 0} (failure : Failure)
     → ◌≡◌ {A = Result A Failure} (Err failure) (Err failures.Write) → IsOfLine (of_failure failure)
 write_fault {A} failure is =
     subst (λ (r : Result A Failure). IfErr r (λ f. IsOfLine (of_failure f))) (sym is) tt
-
-pub stops_writing : (Done : Doing) (failure : Failure) (May : KeepFault → Type 0) (was is : Keeping)
-    (ends : Bool) (io : Exchange) (held after : Held) (old new : Holding) (bytes text : List ℕ)
-    → IsOfLine (of_failure failure) → HandsLine ends io.input io.left held after bytes
-    → MeetsBytes Done old.database old.line bytes text new.line
-    → AppendsFront io.written io.gained text → IsKeptUp was is old.database old.line new.line
-    → StopsAt Done (of_failure failure) May was is io held after old new
-stops_writing Done failure May was is ends io held after old new bytes text of handed met told
-    kept = inr (of, ends, bytes, text, handed, met, told.0, told.1, inl kept)
 
 -- as the writer's
 pub fails_writing : {A : Type 0} (failure : Failure) (reader writer keeper : Type 0)
@@ -554,20 +470,6 @@ serves_next Done true io held after old new bytes text handed met told =
     (bytes, text, handed, met, told)
 serves_next Done false io held after old new bytes text handed met told =
     inl (bytes, text, handed, met, told)
-
--- there was no line to hand out
-pub stops_unread : (Done : Doing) (failed : Type 0) (failure : Failure) (May : KeepFault → Type 0)
-    (k : Keeping) (input left : Option (List ℕ)) (held after : Held) (written : Option (List ℕ))
-    (old : Holding) → LacksLine failed input left held after failure
-    → StopsAt Done (of_failure failure) May k k (over input left written written) held after old old
-stops_unread Done failed failures.Read May k input left held after written old lacks =
-    inl (lacks.takes, refl, refl, (lacks.fault.1, lacks.fault.2), kept_none k old.database old.line)
-stops_unread Done failed failures.Write May k input left held after written old lacks =
-    absurd lacks.fault
-stops_unread Done failed failures.TooLong May k input left held after written old lacks =
-    inl (lacks.takes, refl, refl, lacks.fault, kept_none k old.database old.line)
-stops_unread Done failed failures.Memory May k input left held after written old lacks =
-    inl (lacks.takes, refl, refl, tt, kept_none k old.database old.line)
 
 -- a device or its bound poisons no session
 pub spoils_failure : (failure : Failure) (h : Holding) → Spoils (of_failure failure) h h
@@ -634,7 +536,7 @@ left_less input left held after bytes (one, hands) within =
     let whole = length-append bytes (10 ∷ []) in
     omega (arith, hands.counted, ap length hands.split, grown, gone, whole, within)
 
-takes_line : (ends : Bool) (here left : Option (List ℕ)) (held after : Held) (bytes : List ℕ)
+pub takes_line : (ends : Bool) (here left : Option (List ℕ)) (held after : Held) (bytes : List ℕ)
     → HandsLine ends here left held after bytes → Takes here left held.taken after.taken
 takes_line true here left held after bytes (one, hands) =
     record { bytes = hands.bytes; consumed = hands.consumed; counted = hands.counted }
@@ -675,13 +577,6 @@ takes_all Done input here left held after written mid old now so takes within = 
   omega (arith, so.hands.counted, takes.counted, within, length-append so.hands.bytes takes.bytes),
   Consumes-trans input here left so.hands.bytes takes.bytes so.hands.consumed takes.consumed,
 )
-
--- whether more follows, as it was tested
-pub where_more : (Done : Doing) (more test : Bool) (io : Exchange) (held after : Held)
-    (now new : Holding) → more ≡ test → ServesNext Done more io held after now new
-    → ServesNext Done test io held after now new
-where_more Done more test io held after now new is next =
-    subst (λ (b : Bool). ServesNext Done b io held after now new) is next
 
 -- nothing was read and nothing written
 pub serves_none : (Done : Doing) (input written : Option (List ℕ)) (old : Holding)

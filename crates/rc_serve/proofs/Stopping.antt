@@ -1,18 +1,21 @@
 -- A fault where one line is served.
-use Rattle.std.proofs.Common.{inl, inr, ℕ, List, Option, refl, sym, subst}
+use Rattle.std.proofs.Common.{◌≡◌, inl, inr, ℕ, List, Option, Result, Ok, Err, IfErr, refl, sym}
+use Rattle.std.proofs.Common.{subst}
 use Rattle.std.proofs.KnownBytes.{Appends-nil}
 use Rattle.rc_session.specs.Holding.{Holding}
 use Rattle.rc_streams.specs.Input.{AppendsFront}
 use Rattle.rc_streams.specs.declared.input.Failure.{Failure}
+use Rattle.rc_streams.specs.declared.input.Failure.TheVariants as failures
 use Rattle.rc_script.specs.Says.{Saying}
 use Rattle.rc_serve.specs.declared.fault.ServeFault.{ServeFault}
 use Rattle.rc_serve.specs.declared.fault.ServeFault.TheVariants.{Read, Write, TooLong, Memory}
 use Rattle.rc_serve.specs.declared.fault.ServeFault.TheVariants.{NoThread, Strange, Workers, Io}
 use Rattle.rc_serve.specs.declared.keeper.KeepFault.{KeepFault}
-use Rattle.rc_serve.specs.Faults.{EndsSession, IsOfLine, of_failure}
+use Rattle.rc_serve.specs.Faults.{EndsSession, IsOfAnswer, IsOfLine, of_failure}
 use Rattle.rc_serve.specs.Meeting.{Doing, MayMeetSaying, Meets, WantsWork}
-use Rattle.rc_serve.specs.Keeping.{Keeping, EndsLine, IsKeptOrFails, IsKeptUp}
+use Rattle.rc_serve.specs.Keeping.{Keeping, IsKeptUp}
 use Rattle.rc_serve.specs.Ending.{StopsOnce}
+use Rattle.rc_serve.proofs.Keeping.{EndsLine, IsKeptOrFails}
 use Rattle.rc_serve.proofs.Lines.{still_kept, unwritten_kept}
 
 module _ (By : Doing) (May : KeepFault → Type 0) (was is : Keeping) (saying : Saying)
@@ -87,3 +90,15 @@ module _ (By : Doing) (May : KeepFault → Type 0) (was is : Keeping) (saying : 
       → AppendsFront written gained text → IsKeptUp was is old.database old.line new.line
       → StopsOnce By (of_failure failure) May was is saying written gained old new
   once_writing failure gained text of met told kept = inr (of, text, met, told.0, told.1, inl kept)
+
+-- a fault is no ending, and a failed write is a fault of the answer
+pub never_ended : {A : Type 0} (a : A) (fault : ServeFault)
+    → ◌≡◌ {A = Result A ServeFault} (Err fault) (Ok a) → ⊥
+never_ended {A} a fault is =
+    let bad : ◌≡◌ {A = Result A ServeFault} (Err fault) (Ok a) = is in cc
+
+pub answer_fault : {A : Type 0} (failure : Failure)
+    → ◌≡◌ {A = Result A Failure} (Err failure) (Err failures.Write)
+    → IsOfAnswer (of_failure failure)
+answer_fault {A} failure is =
+    subst (λ (r : Result A Failure). IfErr r (λ f. IsOfAnswer (of_failure f))) (sym is) tt

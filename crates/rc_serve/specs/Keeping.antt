@@ -1,19 +1,18 @@
 -- What a keeper keeps, and what is kept as a session goes on.
-use Rattle.std.specs.Prelude.{◌≡◌, ◌⊎◌, ◌↔◌, ◌++◌, ℕ, Bool, true, List, Option, Result, MatchResult}
-use Rattle.std.specs.Prelude.{take}
-use Rattle.std.specs.Io.KnownBytes.{Appends, Consumes}
+use Rattle.std.specs.Prelude.{◌≡◌, ◌⊎◌, ◌↔◌, ℕ, Bool, List, Option, Some, None, Result, Err}
+use Rattle.std.specs.Io.KnownBytes.{Consumes}
 use Rattle.rc_streams.specs.Exchange.{Exchange}
-use Rattle.rc_streams.specs.Taking.{Held, HandsLine, Takes}
-use Rattle.rc_model.specs.Database.{Database}
+use Rattle.rc_model.specs.Database.{Bundles, Database}
 use Rattle.rc_model.specs.Line.{Line}
+use Rattle.rc_model.specs.Session.{Command}
 use Rattle.rc_session.specs.Holding.{Holding}
+use Rattle.rc_script.specs.Says.{Saying, SaysStep}
 use Rattle.rc_serve.specs.declared.fault.ServeFault.{ServeFault}
 use Rattle.rc_serve.specs.declared.fault.ServeFault.TheVariants.{Memory, Io}
 use Rattle.rc_serve.specs.declared.keeper.KeepFault.{KeepFault}
 use Rattle.rc_serve.specs.declared.keeper.KeepFault.TheVariants as keep
-use Rattle.rc_serve.specs.Faults.{EndsSession, IsOfLine, StandsAt}
 use Rattle.rc_serve.specs.Meeting.{Doing}
-use Rattle.rc_serve.specs.Serving.{AreLines, MeetsBytes, NextWantsWork, Serves, ServesFront}
+use Rattle.rc_serve.specs.Serving.{AreLines, Serves, ServesFront}
 use Rattle.rc_serve.specs.SessionText.{IsDoneFailing}
 use Rattle.rc_graph.specs.declared.Way.{Way}
 
@@ -40,22 +39,23 @@ IsOfKeeping May Io = May keep.Io
 IsOfKeeping May Memory = May keep.Memory
 IsOfKeeping May other = ⊥
 
--- where a line ends the session, what it leaves is kept, or keeping it has failed, and what was
--- kept is kept
-abbrev pub IsKeptOrFails : ServeFault → (May : KeepFault → Type 0) → (was is : Keeping) → Database
-    → (here line : Line) → Type 0
-IsKeptOrFails fault May was is d here line =
-    IsKeptUp was is d here line ⊎ (IsOfKeeping May fault × IsKeptOn was is)
+-- the state from before a command; a line that is none has none
+abbrev pub IsBefore : Option (List Bool × Bundles) → Saying → Line → Type 0
+IsBefore None saying line = (command : Command) → saying ≡ SaysStep command → ⊥
+IsBefore (Some state) saying line =
+    (state.0 ≡ line.current.live) × (state.1 ≡ line.current.table)
 
--- what a line leaves is kept before its answer is handed out
-abbrev pub KeepsLine : {A : Type 0} → Result A ServeFault → (May : KeepFault → Type 0)
-    → (was is : Keeping) → Database → (here line : Line) → Type 0
-KeepsLine result May was is d here line = MatchResult result
-    (λ _. IsKeptUp was is d here line) (λ fault. IsKeptOrFails fault May was is d here line)
+-- a line of states still has the current state from before a command
+abbrev pub IsStill : Option (List Bool × Bundles) → Line → Type 0
+IsStill None line = Unit {0}
+IsStill (Some state) line = (line.current.live ≡ state.0) × (line.current.table ≡ state.1)
 
--- a line ends the session, as it could not be kept or as else
-abbrev pub EndsLine : (keeper work : Type 0) → (old new : Holding) → ServeFault → Type 0
-EndsLine keeper work old new fault = ((fault ≡ Io) × keeper) ⊎ EndsSession work old new fault
+-- the line is kept, and the answer handed on; or keeping it has failed, and that is the answer
+abbrev pub IsKeptAs : {A : Type 0} → (answer result : Result A ServeFault)
+    → (May : KeepFault → Type 0) → (failed : Type 0) → (was is : Keeping) → Database → Line → Type 0
+IsKeptAs answer result May failed was is d line = ((result ≡ answer) × is d line)
+    ⊎ ((fault : KeepFault) × (result ≡ Err (of_keeping fault)) × May fault
+    × (fault ≡ keep.Io → failed) × (IsKeptOn was is ⊎ is d line))
 
 -- where a fault came, the line that stands is kept; or keeping it has failed, nothing was written
 -- of its answer, and the line before is kept, of which all was answered
@@ -76,25 +76,6 @@ abbrev pub ServesFrontFailingKept : ServeFault → (May : KeepFault → Type 0) 
     → (ℕ → Way → Bool) → Exchange → Holding → Holding → Type 0
 ServesFrontFailingKept fault May was is fails =
     ServesFrontKept (IsDoneFailing fails) fault May was is
-
--- a fault came: with no further line met, nothing written, and what stands kept as it was; or with
--- one more met, and a prefix of its answer written, of which there is something only where what it
--- leaves is kept
-abbrev pub StopsAt : Doing → ServeFault → (May : KeepFault → Type 0) → (was is : Keeping)
-    → Exchange → Held → Held → Holding → Holding → Type 0
-StopsAt Done fault May was is io before after old new =
-    ((takes : Takes io.input io.left before.taken after.taken) × (new.line ≡ old.line)
-    × (io.gained ≡ io.written)
-    × StandsAt fault (old.spoiled ≡ true)
-    (NextWantsWork old.database old.line (before.pending ++ takes.bytes))
-    after.taken (before.pending ++ takes.bytes)
-    × IsKeptUp was is old.database old.line new.line)
-    ⊎ (IsOfLine fault × (ends : Bool) × (bytes : List ℕ) × (text : List ℕ)
-    × HandsLine ends io.input io.left before after bytes
-    × MeetsBytes Done old.database old.line bytes text new.line
-    × (n : ℕ) × Appends io.written io.gained (take n text)
-    × (IsKeptUp was is old.database old.line new.line
-    ⊎ (IsOfKeeping May fault × (n ≡ 0) × IsKeptOn was is)))
 
 -- no lines at the beginning of an input alter the line of states
 abbrev pub AltersNone : Doing → (input : Option (List ℕ)) → Database → Line → Type 0

@@ -1,25 +1,27 @@
 //! A session over a reader and a writer, which a keeper keeps.
 ghost use Rattle.std.specs.Prelude.{◌≡◌, ◌⊎◌, ◌≤◌, ◌↔◌, ℕ, Bool, false, Err, IfOk, OnOk};
-ghost use Rattle.std.specs.Prelude.{IfErr, MatchResult};
+ghost use Rattle.std.specs.Prelude.{IfErr, IsTrue, MatchOption, MatchResult};
 ghost use Rattle.rc_streams.specs.Exchange.{exchanged};
 ghost use Rattle.rc_streams.specs.Input.{ConsumesAtMost};
 ghost use Rattle.rc_streams.specs.Noting.{HasFailed, IsFlushed, inner_of};
+ghost use Rattle.rc_streams.specs.Taking.{HandsNothing};
+ghost use Rattle.rc_script.specs.Says.{saying_of};
 ghost use Rattle.rc_graph.specs.declared.Way.{Way};
 ghost use Rattle.rc_board.specs.Crew.{IsCrew};
 ghost use Rattle.rc_serve.specs.Faults.{IsOfAnswer, IsServeFault, IsSpoiledBy};
 ghost use Rattle.rc_serve.specs.Keeping.{AltersNone, IsKeptUp, ServesFrontFailingKept};
-ghost use Rattle.rc_serve.specs.Keeping.{ServesFrontKept, StopsAt};
+ghost use Rattle.rc_serve.specs.Keeping.{ServesFrontKept};
 ghost use Rattle.rc_serve.specs.Meeting.{IsDoneBy};
-ghost use Rattle.rc_serve.specs.Serving.{ServesAll, ServesNext, Stays};
+ghost use Rattle.rc_serve.specs.Serving.{HandsSaying, ServesAll, StandsUnread, Stays};
 ghost use Rattle.rc_serve.specs.Playing.{PlaysInput};
 ghost use Rattle.rc_serve.specs.SessionText.{FailsExactly, IsTimeless, ServesFailing};
 
-use crate::answers::line_answer;
 use crate::fault::ServeFault;
 use crate::keeper::Keeper;
+use crate::one_line::answer_once;
 use rc_board::{Executor, Gate};
+use rc_script::{SessionLine, read_line};
 use rc_session::Session;
-use rc_streams::writing::write_answer;
 use rc_streams::{Lines, Noted};
 use std::alloc::Global;
 use std::io::{Read, Write};
@@ -142,7 +144,7 @@ pub fn serve_kept<T: Threads + Wait + Sync, R: Read, W: Write, K: Keeper, G: Gat
     // The session tells that its line is one of its database.
     let _ = session.db();
     let _ = session.journal();
-    if workers == 0 || workers > MAX_WORKERS {
+    if !is_crew(workers) {
         return Err(ServeFault::Workers);
     }
     let executor = Executor {
@@ -151,99 +153,59 @@ pub fn serve_kept<T: Threads + Wait + Sync, R: Read, W: Write, K: Keeper, G: Gat
         gate,
         workers,
     };
-    serve_lines(&executor, reader, writer, session, keeper)
+    let mut lines = Lines::new(alloc);
+    loop {
+        let (said, ends) = match next_said(alloc, &mut lines, reader) {
+            Ok(Some(next)) => next,
+            Ok(None) => return Ok(()),
+            Err(fault) => return Err(fault),
+        };
+        let ended = answer_once(&executor, session, keeper, &said, writer);
+        drop(said);
+        match ended {
+            Ok(_) => {
+                if !ends {
+                    return Ok(());
+                }
+            }
+            Err(fault) => return Err(fault),
+        }
+    }
 }
 
-/// Serves the lines of a session with a right number of workers.
-fn serve_lines<T: Threads + Wait + Sync, R: Read, W: Write, K: Keeper, G: Gate>(
-    executor: &Executor<'_, T, G>,
-    reader: &mut Noted<R>,
-    writer: &mut Noted<W>,
-    session: &mut Session,
-    keeper: &mut K,
-) -> Result<(), ServeFault>
-    requires closed { session.old.begun ≡ false }
-    requires reader { HasFailed reader.old → ⊥ }
-    requires writer { HasFailed writer.old → ⊥ }
-    requires crew { IsCrew executor.now.workers }
-    ensures done { OnOk result (ServesAll
-        (IsDoneBy executor.now.workers (G.answers executor.now.gate.now)
-        (G.gives executor.now.gate.now))
-        (exchanged R.remaining W.contents reader.old reader.new writer.old writer.new)
-        session.old session.new) }
-    ensures kept { OnOk result (IsKeptUp (K.keeps keeper.old) (K.keeps keeper.new)
-        session.old.database session.old.line session.new.line) }
-    ensures unaltered { AltersNone
-        (IsDoneBy executor.now.workers (G.answers executor.now.gate.now)
-        (G.gives executor.now.gate.now))
-        (R.remaining (inner_of reader.old)) session.old.database session.old.line
-        → keeper.new ≡ keeper.old }
-    ensures begun { IfErr result (λ fault. ServesFrontKept
-        (IsDoneBy executor.now.workers (G.answers executor.now.gate.now)
-        (G.gives executor.now.gate.now)) fault
-        K.fails (K.keeps keeper.old) (K.keeps keeper.new)
-        (exchanged R.remaining W.contents reader.old reader.new writer.old writer.new)
-        session.old session.new) }
-    ensures flushed { MatchResult result (λ _.
-        IsFlushed writer.old → IsFlushed writer.new) (λ fault.
-        IsOfAnswer fault ⊎ (IsFlushed writer.old → IsFlushed writer.new)) }
-    ensures sound { OnOk result ((HasFailed reader.new → ⊥) × (HasFailed writer.new → ⊥)) }
-    ensures told { HasFailed reader.new → result ≡ Err ServeFault.Read }
-    ensures stays { Stays session.old session.new }
-    ensures fault { IfErr result (IsServeFault
-        (HasFailed reader.new) (HasFailed writer.new) (K.failed keeper.new)) }
-    ensures whole { IsSpoiledBy result session.old session.new }
-    ensures taken { ConsumesAtMost (R.remaining (inner_of reader.old))
-        (R.remaining (inner_of reader.new)) 16777217 }
+/// Returns true if a session may have so many workers.
+fn is_crew(workers: u8) -> bool
+    ensures { IsTrue result ↔ IsCrew workers }
 {
-    let mut lines = Lines::new(executor.alloc);
-    while next_answer(executor, &mut lines, reader, writer, session, keeper)? {}
-    Ok(())
+    workers >= 1 && workers <= MAX_WORKERS
 }
 
-/// Answers the next line. Returns false if it was the last one, or there was none.
-fn next_answer<T: Threads + Wait + Sync, R: Read, W: Write, K: Keeper, G: Gate>(
-    executor: &Executor<'_, T, G>,
+/// Returns what the next line says, and whether it ends in a newline. One that does not is the
+/// last. Returns none if no line is left.
+fn next_said<R: Read>(
+    alloc: Global,
     lines: &mut Lines,
     reader: &mut Noted<R>,
-    writer: &mut Noted<W>,
-    session: &mut Session,
-    keeper: &mut K,
-) -> Result<bool, ServeFault>
-    requires closed { session.old.begun ≡ false }
-    requires reader { HasFailed reader.old → ⊥ }
-    requires writer { HasFailed writer.old → ⊥ }
-    requires crew { IsCrew executor.now.workers }
-    ensures next { IfOk result (λ more.
-        ServesNext (IsDoneBy executor.now.workers (G.answers executor.now.gate.now)
-        (G.gives executor.now.gate.now)) more
-        (exchanged R.remaining W.contents reader.old reader.new writer.old writer.new)
-        lines.old lines.new session.old session.new) }
-    ensures kept { OnOk result (IsKeptUp (K.keeps keeper.old) (K.keeps keeper.new)
-        session.old.database session.old.line session.new.line) }
-    ensures unaltered { session.new.line ≡ session.old.line → keeper.new ≡ keeper.old }
-    ensures stopped { IfErr result (λ fault. StopsAt
-        (IsDoneBy executor.now.workers (G.answers executor.now.gate.now)
-        (G.gives executor.now.gate.now)) fault
-        K.fails (K.keeps keeper.old) (K.keeps keeper.new)
-        (exchanged R.remaining W.contents reader.old reader.new writer.old writer.new)
-        lines.old lines.new session.old session.new) }
-    ensures flushed { MatchResult result (λ _.
-        IsFlushed writer.old → IsFlushed writer.new) (λ fault.
-        IsOfAnswer fault ⊎ (IsFlushed writer.old → IsFlushed writer.new)) }
-    ensures stays { Stays session.old session.new }
-    ensures reader { OnOk result (HasFailed reader.new → ⊥) }
-    ensures writer { OnOk result (HasFailed writer.new → ⊥) }
+) -> Result<Option<(SessionLine, bool)>, ServeFault>
+    requires { HasFailed reader.old → ⊥ }
+    ensures said { IfOk result (λ next. MatchOption next
+        (HandsNothing (R.remaining (inner_of reader.old))
+        (R.remaining (inner_of reader.new)) lines.old lines.new)
+        (λ found. HandsSaying found.1 (R.remaining (inner_of reader.old))
+        (R.remaining (inner_of reader.new)) lines.old lines.new (saying_of found.0))) }
+    ensures fault { IfErr result (λ fault. StandsUnread fault (R.remaining (inner_of reader.old))
+        (R.remaining (inner_of reader.new)) lines.old lines.new) }
+    ensures device { IfErr result (IsServeFault (HasFailed reader.new) ⊥ ⊥) }
+    ensures sound { OnOk result (HasFailed reader.new → ⊥) }
     ensures told { HasFailed reader.new → result ≡ Err ServeFault.Read }
-    ensures fault { IfErr result (IsServeFault
-        (HasFailed reader.new) (HasFailed writer.new) (K.failed keeper.new)) }
-    ensures whole { IsSpoiledBy result session.old session.new }
     ensures within { lines.new.taken ≤ 16777217 }
 {
-    let Some((line, ends)) = lines.next(executor.alloc, reader)? else {
-        return Ok(false);
-    };
-    let answer = line_answer(executor, session, keeper, &line)?;
-    write_answer(writer, &answer.text)?;
-    Ok(ends)
+    match lines.next(alloc, reader) {
+        Ok(Some((line, ends))) => match read_line(alloc, &line) {
+            Ok(said) => Ok(Some((said, ends))),
+            Err(_) => Err(ServeFault::Memory),
+        },
+        Ok(None) => Ok(None),
+        Err(failure) => Err(ServeFault::from(failure)),
+    }
 }

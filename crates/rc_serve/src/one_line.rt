@@ -12,7 +12,8 @@ ghost use Rattle.rc_serve.specs.Meeting.{IsDoneBy};
 ghost use Rattle.rc_serve.specs.Serving.{Stays};
 ghost use Rattle.rc_serve.specs.declared.ending.Ending.TheVariants.{Done};
 
-use crate::answers::said_answer;
+use crate::altered::{begin_command, keep_altered};
+use crate::answers::step_answer;
 use crate::ending::Ending;
 use crate::fault::ServeFault;
 use crate::keeper::Keeper;
@@ -72,7 +73,18 @@ pub fn answer_once<T: Threads + Wait + Sync, W: Write, K: Keeper, G: Gate>(
     // The session tells that its line is one of its database.
     let _ = session.db();
     let _ = session.journal();
-    let answer = said_answer(executor, session, keeper, said)?;
-    write_answer(writer, &answer.text)?;
-    Ok(answer.ending)
+    let Ok(before) = begin_command(executor, session, said) else {
+        return Err(ServeFault::Memory);
+    };
+    let answer = step_answer(executor, session, said);
+    let _ = session.journal();
+    let answer = keep_altered(executor, session, keeper, &before, answer);
+    drop(before);
+    match answer {
+        Ok(answer) => match write_answer(writer, &answer.text) {
+            Ok(()) => Ok(answer.ending),
+            Err(failure) => Err(ServeFault::from(failure)),
+        },
+        Err(fault) => Err(fault),
+    }
 }

@@ -1,6 +1,6 @@
 //! The files of `-b` and `-l`, and the programs of `-r` and `-c`, if the arguments name none: the
 //! environment's UNDORC_DB, UNDORC_LIVE, UNDORC_RUNNER and UNDORC_CONTROLLER.
-use rc_args::{Defaults, Invocation, Making, Once, SessionCommand, SessionRequest};
+use rc_args::{Defaults, Invocation, Making, Once, SessionCommand};
 use rc_script::SessionLine;
 use rc_session::Command;
 use std::env::{self, VarError};
@@ -59,32 +59,40 @@ pub fn unread_in(invocation: &Invocation<'_>) -> Option<&'static str> {
         Invocation::Compile(_) | Invocation::Version => None,
         Invocation::Db(request, base) => unread(*base).or(unread(request.live)),
         Invocation::Plan(_, base) | Invocation::Replay(base) => unread(*base),
-        Invocation::Session(command, base) => {
-            unread_of(command.session(), *base, runs_scripts(command))
-        }
+        Invocation::Session(command, base) => unread_of(command, *base),
         Invocation::Cancel(live) => unread(*live),
     }
 }
 
-/// Returns a variable that a session uses and that is no text, if there is one. `runs` says whether
-/// the session runs scripts.
-fn unread_of(session: &SessionRequest<'_>, base: Option<&str>, runs: bool) -> Option<&'static str> {
-    let files = unread(base).or(unread(session.live));
-    match &session.making {
-        Making::Programs(programs) if runs => {
-            files.or(unread(programs.runner).or(unread(programs.controller)))
-        }
-        _ => files,
+/// Returns a variable that a command on a session uses and that is no text, if there is one.
+fn unread_of(command: &SessionCommand<'_>, base: Option<&str>) -> Option<&'static str> {
+    let (runner, controller) = programs_of(command);
+    unread(base)
+        .or(unread(command.session().live))
+        .or(unread(runner))
+        .or(unread(controller))
+}
+
+/// Returns the runner and the controller that a command may start, as its options or the
+/// environment name them.
+pub fn programs_of<'a>(command: &SessionCommand<'a>) -> (Option<&'a str>, Option<&'a str>) {
+    let Making::Programs(programs) = &command.session().making else {
+        return (None, None);
+    };
+    match command {
+        SessionCommand::Check(_) => (None, programs.controller),
+        _ if runs_scripts(command) => (programs.runner, programs.controller),
+        _ => (None, None),
     }
 }
 
 /// Returns true if a command may run scripts.
-pub fn runs_scripts(command: &SessionCommand<'_>) -> bool {
+fn runs_scripts(command: &SessionCommand<'_>) -> bool {
     match command {
         SessionCommand::Lines(_) | SessionCommand::Restart(_) => true,
         SessionCommand::Line(request) => is_run(&request.once),
         SessionCommand::Update(request) => !request.dry,
-        SessionCommand::Seal(_) | SessionCommand::Status(_) => false,
+        SessionCommand::Seal(_) | SessionCommand::Status(_) | SessionCommand::Check(_) => false,
     }
 }
 

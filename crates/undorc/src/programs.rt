@@ -1,9 +1,9 @@
 //! The programs of -r and -c, which are looked at before anything moves. Their words are quoted by
 //! no shell, and their programs have to exist.
 use crate::WRONG_LINE;
-use crate::defaults::runs_scripts;
+use crate::defaults::programs_of;
 use log::{error, info};
-use rc_args::{Invocation, Making, SessionCommand};
+use rc_args::{Invocation, SessionCommand};
 use rc_launch::frontend::tell_failure;
 use rc_streams::messages::{HINT, MESSAGE, Messages};
 use std::env::{self, VarError};
@@ -19,13 +19,8 @@ pub fn tell_programs(rt: &HostRuntime, invocation: &Invocation<'_>) -> Option<u8
     let Invocation::Session(command, _) = invocation else {
         return None;
     };
-    let Making::Programs(programs) = &command.session().making else {
-        return None;
-    };
-    if !runs_scripts(command) {
-        return None;
-    }
-    let named = [("-r", programs.runner), ("-c", programs.controller)];
+    let (runner, controller) = programs_of(command);
+    let named = [("-r", runner), ("-c", controller)];
     for (option, text) in &named {
         if let Some(word) = quoted_in(*text) {
             return Some(tell_quoted(rt, option, word));

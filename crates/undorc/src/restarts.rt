@@ -1,8 +1,10 @@
 //! `restart`: says which of its names are down, and stay down.
 use log::info;
 use rc_args::SessionCommand;
+use rc_dbtext::lexer::NameWord;
 use rc_launch::frontend::{FileOptions, ForShell};
 use rc_launch::{LiveText, Opened};
+use rc_livetext::{LiveForm, read_form};
 use rc_streams::ending::{FAILED, REFUSED};
 use rc_streams::messages::{HINT, MESSAGE, Messages};
 
@@ -18,16 +20,40 @@ pub fn tell_down(rt: &HostRuntime, opened: &Opened<'_>, files: FileOptions<'_>, 
     let Ok(live) = LiveText::read(rt, files.live) else {
         return;
     };
+    let before = opened.live().bytes();
     if let Some(after) = live.bytes() {
-        let after = state_of(after);
-        for name in &request.names {
+        tell_names(rt, &request.names, before, after, files);
+    }
+    drop(live);
+}
+
+/// Prints which of these names are down in two texts of a session. Without the first text all are
+/// down in it. In a text that can't be read none is.
+fn tell_names(
+    rt: &HostRuntime,
+    names: &[String],
+    before: Option<&[u8]>,
+    after: &[u8],
+    files: FileOptions<'_>,
+) {
+    let begun = match before {
+        Some(text) => form_of(rt, text),
+        None => None,
+    };
+    if let Some(ended) = form_of(rt, after) {
+        for name in names {
             let name = name.as_str();
-            if was_down(opened, name) && after.is_down(name) {
+            let was_down = match &begun {
+                Some(form) => is_down(form, name),
+                None => before.is_none(),
+            };
+            if was_down && is_down(&ended, name) {
                 tell_name(rt, name, files);
             }
         }
+        drop(ended);
     }
-    drop(live);
+    drop(begun);
 }
 
 /// Prints that a name is down, and what brings it up.
@@ -37,78 +63,43 @@ fn tell_name(rt: &HostRuntime, name: &str, files: FileOptions<'_>) {
     info!(Messages(rt); target: HINT, "undorc start{files} {word} brings it up");
 }
 
-/// Returns true if a name was down before the command. Without the file of the session all were.
-fn was_down(opened: &Opened<'_>, name: &str) -> bool {
-    match opened.live().bytes() {
-        Some(before) => state_of(before).is_down(name),
-        None => true,
+/// Returns what the text of a session says, if it can be read.
+fn form_of<'a>(rt: &HostRuntime, text: &'a [u8]) -> Option<LiveForm<'a>> {
+    match read_form(rt.alloc(), text) {
+        Ok((form, _)) => Some(form),
+        Err(_) => None,
     }
 }
 
-/// The current state in the text of a session: its services, those that are up, and the lines from
-/// the first bundle on.
-#[derive(Clone, Copy)]
-struct State<'a> {
-    services: &'a str,
-    up: &'a str,
-    bundles: &'a str,
-}
-
-/// Returns the current state in the text of a session, as far as the text has one.
-fn state_of(bytes: &[u8]) -> State<'_> {
-    let text = std::str::from_utf8(bytes).unwrap_or("");
-    let (services, _) = line_behind(text, "\nservices");
-    let (up, bundles) = line_behind(text, "\nnow");
-    State {
-        services,
-        up,
-        bundles,
+/// Returns true if a service is down in the current state, or each of the services of a bundle that
+/// has some.
+fn is_down(form: &LiveForm<'_>, name: &str) -> bool {
+    let state = &form.current;
+    if has_name(&form.services, name) {
+        return !has_name(&state.live, name);
     }
-}
-
-/// Returns what is behind the first line that begins in this way on the same line, and the lines
-/// behind it.
-fn line_behind<'a>(text: &'a str, front: &str) -> (&'a str, &'a str) {
-    match text.split_once(front) {
-        Some((_, rest)) => rest.split_once('\n').unwrap_or((rest, "")),
-        None => ("", ""),
-    }
-}
-
-impl State<'_> {
-    /// Returns true if a service is down, or each of the services of a bundle.
-    fn is_down(&self, name: &str) -> bool {
-        if has_word(self.services, name) {
-            return !has_word(self.up, name);
+    for bundle in &state.bundles {
+        if bundle.name.text() == name {
+            return !bundle.members.is_empty() && are_down(&bundle.members, &state.live);
         }
-        for line in self.bundles.lines() {
-            let Some(bundle) = line.strip_prefix("bundle ") else {
-                return false;
-            };
-            if let Some((bundle, members)) = bundle.split_once(' ') {
-                if bundle == name {
-                    return self.are_down(members);
-                }
-            }
-        }
-        false
     }
-
-    /// Returns true if each of these services is down.
-    fn are_down(&self, members: &str) -> bool {
-        for member in members.split(' ') {
-            if has_word(self.up, member) {
-                return false;
-            }
-        }
-        true
-    }
+    false
 }
 
-/// Returns true if a word stands among words.
-fn has_word(words: &str, word: &str) -> bool {
-    for other in words.split(' ') {
-        if other == word {
+/// Returns true if none of these services is among those that are live.
+fn are_down(members: &[NameWord<'_>], live: &[NameWord<'_>]) -> bool {
+    for member in members {
+        if has_name(live, member.text()) {
+            return false;
+        }
+    }
+    true
+}
+
+/// Returns true if a name is among these.
+fn has_name(names: &[NameWord<'_>], name: &str) -> bool {
+    for other in names {
+        if other.text() == name {
             return true;
         }
     }

@@ -282,6 +282,19 @@ const STATUS: [ToldArg; 3] = [
     NAMES,
 ];
 
+// What is asked about a session without a lock, and the program that is asked.
+const CHECK: [ToldArg; 4] = [
+    BASE,
+    Valued(
+        "controller",
+        'c',
+        "TEXT",
+        "Ask this program, with these words; `state` and the name are its last words",
+    ),
+    Valued("live", 'l', "FILE", "The file of the session"),
+    NAMES,
+];
+
 // What alters bundles.
 const FORCE: ToldArg = Flag(
     "force",
@@ -404,11 +417,16 @@ pub(crate) const ALTERING: [ToldCommand; 5] = [
 ];
 
 /// The commands that show where a session stands, and the others.
-pub(crate) const SHOWING: [ToldCommand; 7] = [
+pub(crate) const SHOWING: [ToldCommand; 8] = [
     ToldCommand {
         name: "status",
         about: "Prints where each service stands, also while a command is under way",
         args: &STATUS,
+    },
+    ToldCommand {
+        name: "check",
+        about: "Asks where each longrun is, and prints those that are not where the session says",
+        args: &CHECK,
     },
     ToldCommand {
         name: "live",

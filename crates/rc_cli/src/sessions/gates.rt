@@ -31,7 +31,7 @@ pub fn gate_for<'h, 'a, T, L: Log + Sync>(
         Ok(gate) => gate,
         Err(fault) => return Err(fault),
     };
-    match Telling::new(host.log, host.alloc, db, gate) {
+    match Telling::new(host.runtime, host.log, host.alloc, db, gate) {
         Ok(gate) => Ok(gate),
         Err(_) => Err(SessionFault::Failed(ServeFault::Memory)),
     }

@@ -113,6 +113,7 @@ fn word_of(asked: &Invocation<'_>) -> &'static str {
         Invocation::Session(SessionCommand::Restart(_), _) => "restart",
         Invocation::Session(SessionCommand::Seal(_), _) => "seal",
         Invocation::Session(SessionCommand::Status(_), _) => "status",
+        Invocation::Session(SessionCommand::Check(_), _) => "check",
         Invocation::Cancel(_) => "cancel",
         Invocation::Version => "version",
     }

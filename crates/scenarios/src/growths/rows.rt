@@ -259,7 +259,7 @@ const NO_REPLAY: Run = Run {
     said: "undorc: BadLine 2\n",
 };
 
-pub(crate) static ROWS: [Row; 161] = [
+pub(crate) static ROWS: [Row; 162] = [
     (
         "Set::empty, and insert, remove, contains, join, without, same, len, is_empty and bound; \
          after up",
@@ -477,6 +477,7 @@ pub(crate) static ROWS: [Row; 161] = [
     ),
     ("invocation_of seal", Asked("seal -b base -l live")),
     ("invocation_of status", Asked("status -b base -l live web")),
+    ("invocation_of check", Asked("check -b base -l live web")),
     ("invocation_of cancel", Asked("cancel -l live")),
     ("invocation_of version", Asked("version")),
     ("write_db, and a log; after up", Begins),

@@ -10,5 +10,5 @@ returns-in_err-once_in-in_default-clause-wrong c =
     c.from_residual-in_err-once_in-in_default.ensures.1 in
     rw (p.1, p.2)
     (λ other. others_none _ _ d.not-compile d.not-db d.not-plan d.not-replay d.not-session
-    d.not-update d.not-restart d.not-seal d.not-status d.not-cancel d.not-version
+    d.not-update d.not-restart d.not-seal d.not-status d.not-check d.not-cancel d.not-version
     (λ ask file asks. c.in_err-once_in-in_default.ensures.wrong other ask asks.0 asks.1.0))

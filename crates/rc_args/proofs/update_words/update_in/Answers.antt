@@ -15,5 +15,4 @@ returns-clause-asked c = record {
   renames = c.text_in.ensures;
   conversions = c.in_ok-conversions.ensures;
   dry = c.is_on.ensures;
-  again = refl;
 }

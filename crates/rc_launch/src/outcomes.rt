@@ -1,0 +1,70 @@
+//! The statuses of a command of several steps, and what it writes beside the answers of its steps.
+ghost use Rattle.std.specs.Prelude.{◌≡◌, ◌≢◌};
+ghost use Rattle.rc_cli.specs.Storing.{store_of};
+
+use rc_cli::sessions::Devices;
+use rc_serve::KeepFault;
+use rc_streams::ending::{DONE, FAILED, REFUSED};
+use rc_streams::tell;
+use rc_streams::writing::write_answer;
+use std::alloc::Global;
+use std::io::Write;
+
+/// Something was carried out, and not all of it is done.
+const HINDERED: u8 = 2;
+
+/// Returns the status of a command that ended with this code after a part of it was carried out.
+pub(crate) fn hindered(code: u8) -> u8
+    ensures { result ≡ 0 → code ≡ 0 }
+{
+    if code == REFUSED { HINDERED } else { code }
+}
+
+/// Writes the answer of a command that moved nothing, and returns the status.
+pub(crate) fn say_done<R, W: Write, F: Write, S>(
+    answer: &[u8],
+    devices: &mut Devices<R, W, F, S>,
+) -> u8
+    ensures { store_of devices.new.outputs.keeper ≡ store_of devices.old.outputs.keeper }
+{
+    match write_answer(&mut devices.outputs.writer, answer) {
+        Ok(()) => DONE,
+        Err(_) => fail_on(b"Write", devices),
+    }
+}
+
+/// Reports a border at which services would have to move, and returns the status. Nothing has
+/// moved.
+pub(crate) fn tell_unjoined<R, W, F: Write, S>(
+    alloc: Global,
+    border: usize,
+    devices: &mut Devices<R, W, F, S>,
+) -> u8
+    ensures { result ≢ 0 }
+{
+    match format!(in alloc; "NotJoined {border}") {
+        Ok(text) => {
+            tell(&mut devices.faults, text.as_bytes());
+            drop(text);
+            REFUSED
+        }
+        Err(_) => fail_on(b"Memory", devices),
+    }
+}
+
+/// Reports a failure, and returns the status.
+pub(crate) fn fail_on<R, W, F: Write, S>(word: &[u8], devices: &mut Devices<R, W, F, S>) -> u8
+    ensures failed { result ≡ 111 }
+    ensures same { store_of devices.new.outputs.keeper ≡ store_of devices.old.outputs.keeper }
+{
+    tell(&mut devices.faults, word);
+    FAILED
+}
+
+/// Returns the word for a write that failed.
+pub(crate) fn word_of(fault: KeepFault) -> &'static [u8] {
+    match fault {
+        KeepFault::Io => b"Io",
+        KeepFault::Memory => b"Memory",
+    }
+}
