@@ -1,8 +1,9 @@
 # shellcheck shell=sh
 # Service directories. In the directory UNDORC_PLACE stand
 #
-#   NAME           the copy that the supervisor uses; or a link to the copy of another name, which a
-#                  longrun that an update has renamed has until it restarts
+#   ID             the directory that the supervisor uses for a longrun, its copy. ID is the name that
+#                  the longrun had when the copy was made, or that with dots at its end. The link NAME
+#                  in UNDORC_SCAN leads to it
 #   .sets/N/NAME   the directory that NAME starts from while the session is one of the Nth database.
 #                  Its `.undorc-print` is the fingerprint of the source. Sets and copies share
 #                  files by hard links, and the copy is that directory if its `.undorc-renewed` is
@@ -73,21 +74,25 @@ changed() {
 is_renewed() {
     # The shells of Linux have it.
     # shellcheck disable=SC3013
-    [ "$UNDORC_PLACE/$1/.undorc-renewed" -ef "$set/$1/.undorc-print" ]
+    [ "$UNDORC_SCAN/$1/.undorc-renewed" -ef "$set/$1/.undorc-print" ]
 }
 
 # tell_old NAME: says that the copy differs from the set. A longrun that is down gets a new one when it
 # starts.
 tell_old() {
-    if [ ! -d "$UNDORC_PLACE/$1" ] || is_renewed "$1"; then return 0; fi
+    if [ ! -d "$UNDORC_SCAN/$1" ] || is_renewed "$1"; then return 0; fi
     case $(state_of "$UNDORC_SCAN/$1") in
         up*) echo "$1: has its old copy until it starts again" ;;
     esac
 }
 
-# differing_copies NAME..: prints a line for each longrun whose copy differs from its source
+# differing_copies [NAME..]: prints a line for each of these longruns, or of all, whose copy differs from its
+# source
 differing_copies() {
     find_set
+    # Names are separated by newlines.
+    # shellcheck disable=SC2046
+    [ $# -gt 0 ] || set -- $(ls "$set" 2> /dev/null)
     others=" $(fingerprints "$@" | changed)"
     for name; do
         case $others in
@@ -175,21 +180,16 @@ copy_entry() {
     [ "$new" = "$set/$1" ] || { rm -rf "${set:?}/$1" && mv "$new" "$set/$1"; }
 }
 
-# fill_copy NAME: links the files of the set into a copy that has none
+# fill_copy NAME DIR: links the files of the set into a copy that has none
 fill_copy() {
-    cp -RPpl "$set/$1/." "$UNDORC_PLACE/$1" &&
-        ln -f "$set/$1/.undorc-print" "$UNDORC_PLACE/$1/.undorc-renewed"
+    cp -RPpl "$set/$1/." "$2" && ln -f "$set/$1/.undorc-print" "$2/.undorc-renewed"
 }
 
-# link_copy NAME: puts a copy that is down where the supervisor finds it
-link_copy() {
-    : > "$UNDORC_PLACE/$1/down" && ln -sfn "$UNDORC_PLACE/$1" "$UNDORC_SCAN/$1"
-}
-
-# add_copy NAME: makes a copy of the directory in the set, and puts it there
+# add_copy NAME: makes a copy of the directory in the set, and puts it where the supervisor finds it
 add_copy() {
-    [ ! -e "$UNDORC_PLACE/$1" ] || rm -rf "${UNDORC_PLACE:?}/$1" || return
-    fill_copy "$1" && link_copy "$1"
+    copy=$UNDORC_PLACE/$1
+    while [ -e "$copy" ]; do copy=$copy.; done
+    fill_copy "$1" "$copy" && : > "$copy/down" && ln -sfn "$copy" "$UNDORC_SCAN/$1"
 }
 
 # empty_copy DIR: removes all but the files of the supervisor
@@ -203,31 +203,28 @@ empty_copy() {
     done
 }
 
-# relink NAME: puts a copy that is down under a new supervisor, and waits ten seconds for that
-relink() {
-    link_copy "$1" && rescan && within 100 has_supervisor "$UNDORC_SCAN/$1"
+# supervise_copy NAME: makes a copy, and waits ten seconds for its supervisor
+supervise_copy() {
+    add_copy "$1" && rescan && within 100 has_supervisor "$UNDORC_SCAN/$1"
 }
 
 # renew_copy NAME: makes the copy what the set has; the longrun must be down. After an interruption the
 # next call starts over. A scanner starts a logger only with the supervisor, so a logger that is new or
 # gone needs another supervisor.
 renew_copy() {
-    copy=$UNDORC_PLACE/$1 relinks=
-    if [ ! -d "$set/$1" ] || is_renewed "$1"; then return 0; fi
-    logs=0
+    copy=$UNDORC_SCAN/$1 logs=0
     for log in "$set/$1/log" "$copy/log"; do [ ! -d "$log" ] || logs=$((logs + 1)); done
     if [ "$logs" -eq 1 ]; then
-        remove_supervisor "$1" && rm -rf "$copy/log" || return
-        relinks=yes
+        remove_supervisor "$1" && rm -rf "$copy" && supervise_copy "$1"
+    else
+        rm -f "$copy/.undorc-renewed" && empty_copy "$copy" && fill_copy "$1" "$copy"
     fi
-    rm -f "$copy/.undorc-renewed" && empty_copy "$copy" && fill_copy "$1" || return
-    [ -z "$relinks" ] || relink "$1"
 }
 
 # add_copies NAME..: puts those that the set has under the supervisor. Supervisors start side by side; ten
 # seconds are enough for all. Fails if one has none; says which.
 add_copies() {
-    lacking='' turn=0
+    lacking='' tenths=100
     for name; do
         if [ ! -d "$set/$name" ] || [ -d "$UNDORC_SCAN/$name" ]; then continue; fi
         add_copy "$name" || lacking=yes
@@ -235,22 +232,16 @@ add_copies() {
     (hold_pipes) || lacking=yes
     rescan
     for name; do
-        until [ ! -d "$set/$name" ] || has_supervisor "$UNDORC_SCAN/$name"; do
-            turn=$((turn + 1))
-            if [ "$turn" -gt 100 ]; then
-                echo "init: $name: not supervised" >&2
-                lacking=yes
-                break
-            fi
-            sleep 0.1
-        done
+        if [ ! -d "$set/$name" ] || within "$tenths" has_supervisor "$UNDORC_SCAN/$name"; then continue; fi
+        echo "init: $name: not supervised" >&2
+        lacking=yes tenths=0
     done
     [ -z "$lacking" ]
 }
 
 # remove_copy NAME: ends the supervisor and removes the copy
 remove_copy() {
-    remove_supervisor "$1" && rm -rf "${UNDORC_PLACE:?}/$1" "$UNDORC_PLACE/.pipes/$1"
+    remove_supervisor "$1" && rm -rf "$copy" "$UNDORC_PLACE/.pipes/$1"
 }
 
 # hold_pipes: makes the fifos of the set that are missing, and starts the process that holds all of
@@ -264,7 +255,7 @@ hold_pipes() {
     [ -d "$UNDORC_PLACE/.pipes" ] || return 0
     holder=$UNDORC_PLACE/.holder
     if [ -d "$UNDORC_SCAN/undorc-pipes" ]; then
-        hang_up "$UNDORC_SCAN/undorc-pipes" || true
+        $hangs_up "$UNDORC_SCAN/undorc-pipes" || true
         return
     fi
     mkdir -p "$holder" &&

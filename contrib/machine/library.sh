@@ -8,3 +8,5 @@
 . "$here/copies.sh"
 # shellcheck source=updates.sh
 . "$here/updates.sh"
+# shellcheck source=recovery.sh
+. "$here/recovery.sh"

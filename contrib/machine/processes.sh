@@ -12,7 +12,8 @@ become_undorc() {
     fi
     command=$1
     shift
-    set -- "PATH=$UNDORC_PATH" "$here/../orderly" "$command" -b "$UNDORC_DB" -l "${trial:-$UNDORC_LIVE}" -W -v \
+    set -- "PATH=$UNDORC_PATH" "UNDORC_LOCK=${trial:-$UNDORC_LIVE}.lock" "$here/../orderly" \
+        "$command" -b "$UNDORC_DB" -l "${trial:-$UNDORC_LIVE}" -W -v \
         -c "$here/controller" -r "$here/oneshot" -T "$UNDORC_USUAL" -w "$UNDORC_WORKERS" "$@"
     for variable in $settings UNDORC_FORCE $UNDORC_PASS; do
         case $variable in *[!A-Za-z0-9_]* | [0-9]*) continue ;; esac
@@ -40,18 +41,30 @@ live_names() {
 }
 
 # compare [NAME..]: prints a line for each longrun that the supervisor has in another state than the
-# session; `live` says where a command was cut short. The first line of a name below is the session's
-# word, the second one the supervisor's.
+# session, but for those on their way; `live` says where a command was cut short, and then nothing is. The first
+# line of a name below is the session's word, the second one the supervisor's.
 compare() {
-    "$here/manage" live > /dev/null && stand=$(where) && says=$("$here/says" "$@") || return
-    printf '%s\n' "$stand" "$says" | awk '
+    status_of_live=0
+    note=$("$here/manage" live 2>&1 > /dev/null) || status_of_live=$?
+    [ -z "$note" ] || echo "$note" >&2
+    [ "$status_of_live" -eq 0 ] || return "$status_of_live"
+    stand=$(where) && says=$("$here/says" "$@") || return
+    printf '%s\n' "$stand" "$says" | note=$note awk '
         NF == 0 { next }
         !(($1 "") in word) {
-            word[$1 ""] = $2 == "up" ? "live" : "not live"
+            moves = $2 ~ /ing$/ && ENVIRON["note"] !~ /cut short/
+            word[$1 ""] = $2 == "up" ? "live" : moves ? "moving" : "not live"
             next
         }
+        word[$1 ""] == "moving" { next }
         { state = substr($0, length($1) + 2) }
         state != (word[$1 ""] == "live" ? "up wanted" : "down") { print $1 ": " word[$1 ""] ", but " state }'
+}
+
+# is_free: whether no program holds the session
+is_free() {
+    [ ! -e "$UNDORC_LIVE.lock" ] || ! command -v flock > /dev/null ||
+        flock -s -n "$UNDORC_LIVE.lock" true
 }
 
 # is_in NAMES NAME: whether NAME is one of the lines NAMES
@@ -118,16 +131,37 @@ is_over() {
     ! tr '\0' '\n' < "/proc/$1/environ" | grep -qxF "UNDORC_NAME=$UNDORC_NAME"
 }
 
-# claim: makes this process the script or controller of UNDORC_NAME. One that a killed command has left
-# is ended first. Each has a process group of its own if it has a timeout.
+# is_left: whether another undorc has the lock of the one that has started this script or controller
+is_left() {
+    read -r owner _ < "${UNDORC_LOCK:-/nowhere}" && [ "$owner" != "$PPID" ]
+}
+
+# claim: makes this process the script or controller of UNDORC_NAME. One that a killed command has left is
+# ended first; it may also begin late, and then ends itself: each one enters its number before it looks at
+# those of others and at the lock. Each has a process group of its own if it has a timeout.
 claim() {
     claims=$UNDORC_PLACE/.claims/$UNDORC_NAME
-    if read -r left < "$claims" && ! is_over "$left"; then
-        kill -TERM "-$left" || kill -TERM "$left"
-        within 60 is_over "$left" || kill -KILL "-$left"
-    fi
+    echo $$ >> "$claims"
+    others=$(cat "$claims")
+    ! is_left || exit
+    for other in $others; do
+        if [ "$other" != $$ ] && ! is_over "$other"; then
+            kill -TERM "-$other" || kill -TERM "$other"
+            within 60 is_over "$other" || kill -KILL "-$other"
+        fi
+    done
     echo $$ > "$claims"
 } 2> /dev/null
+
+# has_supervisor DIR
+has_supervisor() {
+    $asks "$1" > /dev/null 2>&1
+}
+
+# is_up DIR: whether it is up, and wanted up
+is_up() {
+    [ "$(state_of "$1")" = 'up wanted' ]
+}
 
 # is_down DIR: whether it is down, and not wanted up
 is_down() {
@@ -137,6 +171,12 @@ is_down() {
 # is_gone DIR: whether it has no supervisor
 is_gone() {
     ! has_supervisor "$1"
+}
+
+# want_up DIR: makes the supervisor want it up. runsv reads no command during its pause after a crash.
+want_up() {
+    rm -f "$1/down"
+    supervised && $raises "$1" && within 15 is_up "$1"
 }
 
 # want_down DIR: makes the supervisor want it down, also one that comes later. While a daemon crashes again

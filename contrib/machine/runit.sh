@@ -4,18 +4,14 @@
 # shellcheck source=processes.sh
 . "$here/processes.sh"
 
-# One of its tools.
-tool=runsv
+# One of its tools, and the commands that tell whether a directory has a supervisor, want its daemon up, and send it
+# HUP.
+tool=runsv asks='sv status' raises='sv up' hangs_up='sv hup'
 
 # rescan: runsvdir looks for new service directories every five seconds, and can't be asked; fails if its
 # directory is not there
 rescan() {
     [ -d "$UNDORC_SCAN" ]
-}
-
-# has_supervisor DIR
-has_supervisor() {
-    sv status "$1" > /dev/null 2>&1
 }
 
 # state_of DIR: prints `up` or `down`, followed by `wanted` where the supervisor wants it up; or
@@ -38,10 +34,10 @@ pid_of() {
     cat "$1/supervise/pid"
 }
 
-# remove_supervisor NAME: ends the supervisor and removes the link in the directory of runsvdir
+# remove_supervisor NAME: ends the supervisor of its copy, to which it sets `copy`, and removes the link in the
+# directory of runsvdir
 remove_supervisor() {
-    copy=$UNDORC_PLACE/$1
-    [ -L "$UNDORC_SCAN/$1" ] || return 0
+    copy=$(readlink "$UNDORC_SCAN/$1") || return 0
     rm -f "$UNDORC_SCAN/$1"
     sv exit "$copy" > /dev/null 2>&1
     within 150 is_gone "$copy"
@@ -95,7 +91,7 @@ fall() {
             kill -KILL "$(pid_of "$1")" 2> /dev/null
             fatal=
         fi
-        sleep 0.1
+        attend sleep 0.1
     done
 }
 
@@ -103,20 +99,4 @@ fall() {
 bring_down() {
     : > "$1/down"
     sv down "$1" > /dev/null && fall "$1" "$2"
-}
-
-# is_up DIR: whether it is up, and runsv, which reads no command during its pause after a crash, wants that
-is_up() {
-    [ "$(state_of "$1")" = 'up wanted' ]
-}
-
-# want_up DIR: makes the supervisor want it up
-want_up() {
-    rm -f "$1/down"
-    supervised && sv up "$1" && within 15 is_up "$1"
-}
-
-# hang_up DIR: sends the daemon HUP
-hang_up() {
-    sv hup "$1"
 }

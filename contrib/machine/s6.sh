@@ -4,17 +4,13 @@
 # shellcheck source=processes.sh
 . "$here/processes.sh"
 
-# One of its tools.
-tool=s6-svscanctl
+# One of its tools, and the commands that tell whether a directory has a supervisor, want its daemon up, and send it
+# HUP.
+tool=s6-svscanctl asks=s6-svok raises='s6-svc -U' hangs_up='s6-svc -h'
 
 # rescan: makes the scanner look for new service directories; fails if there is none
 rescan() {
     s6-svscanctl -a "$UNDORC_SCAN"
-}
-
-# has_supervisor DIR
-has_supervisor() {
-    s6-svok "$1"
 }
 
 # state_of DIR: prints `up` or `down`, followed by `wanted` where the supervisor wants it up; or
@@ -34,11 +30,11 @@ pid_of() {
     s6-svstat -o pid "$1"
 }
 
-# remove_supervisor NAME: ends the supervisor and removes the link in the scan directory. s6-svunlink
-# returns a moment before the supervisor has ended.
+# remove_supervisor NAME: ends the supervisor of its copy, to which it sets `copy`, and removes the link in the
+# scan directory. s6-svunlink returns a moment before the supervisor has ended.
 remove_supervisor() {
-    [ -L "$UNDORC_SCAN/$1" ] || return 0
-    s6-svunlink -t 10000 "$UNDORC_SCAN" "$1" && within 100 is_gone "$UNDORC_PLACE/$1"
+    copy=$(readlink "$UNDORC_SCAN/$1") || return 0
+    s6-svunlink -t 10000 "$UNDORC_SCAN" "$1" && within 100 is_gone "$copy"
 }
 
 # is_ready DIR: whether the daemon becomes ready within 0.3 s
@@ -72,15 +68,4 @@ bring_up() {
 # bring_down DIR MS
 bring_down() {
     attend s6-svc -wD -T "$2" -D "$1"
-}
-
-# want_up DIR: makes the supervisor want it up
-want_up() {
-    rm -f "$1/down"
-    supervised && s6-svc -U "$1"
-}
-
-# hang_up DIR: sends the daemon HUP
-hang_up() {
-    s6-svc -h "$1"
 }

@@ -9,10 +9,8 @@
 #                      set, that of its database in the session, the process, the set that it goes to,
 #                      and the file NEW; then each longrun that is renamed, with its next name
 #
-# A longrun that is up and gets another name keeps its supervisor and its directory, which gets the new
-# name beside the old one, as a link in UNDORC_PLACE and one in UNDORC_SCAN. A scanner knows a directory
-# by its inode, so both names have one supervisor. It gets a directory of its own name when it starts the
-# next time.
+# A longrun that gets another name keeps its supervisor and its copy, to which another link leads. A scanner
+# knows a directory by its inode, so while there are both links there is one supervisor.
 
 # stand: sets what the file of the session says: `present`, the number of its database from 0, `is_passed`,
 # whether an update has only passed where it stands, `is_cut`, whether there is nothing else since it has
@@ -42,29 +40,6 @@ stand() {
         }' "${1:-/dev/null}")"
 }
 
-# is_lent NAME: whether a renamed longrun has the directory of this name
-is_lent() {
-    for link in "$UNDORC_PLACE"/*; do
-        [ ! -L "$link" ] || [ "$(readlink "$link")" != "$1" ] || return 0
-    done
-    return 1
-}
-
-# drop_link NAME: takes the directory of another name from a longrun
-drop_link() {
-    rm -f "$UNDORC_SCAN/$1" "$UNDORC_PLACE/$1"
-}
-
-# own_copy NAME: gives a renamed longrun that is down a directory and a supervisor of its own name
-own_copy() {
-    place=$(readlink "$UNDORC_PLACE/$1") || return 0
-    rm -f "$UNDORC_SCAN/$1" &&
-        remove_supervisor "$place" &&
-        rm -f "$UNDORC_PLACE/$1" &&
-        mv "$UNDORC_PLACE/$place" "$UNDORC_PLACE/$1" &&
-        relink "$1"
-}
-
 # for_pairs COMMAND..: runs it with each old name of `pairs` and the new one, until it fails
 for_pairs() {
     while read -r old name; do
@@ -84,19 +59,6 @@ check_pair() {
         return 0
     fi
     return 1
-}
-
-# check_names NAMES: whether all can have the names that they get where NAMES are all; says why not
-check_names() {
-    for_pairs check_pair "$1" || return
-    own_copies || return 111
-    for link in "$UNDORC_PLACE"/*; do
-        place=$(readlink "$link") || continue
-        if is_in "$1" "$place" && ! is_in "$pairs" "${link##*/} $place"; then
-            echo "manage: ${link##*/} has the directory $place until it restarts" >&2
-            return 1
-        fi
-    done
 }
 
 # lend_pipe OLD NAME: a fifo gets its next name beside the old one
@@ -160,7 +122,7 @@ install_set() {
     ln -sfn ".sets/$to" "$UNDORC_PLACE/.set" && set=$UNDORC_PLACE/.set
 }
 
-# pass_name OLD NAME: a longrun that is up goes on by its new name, and its fifo has that alone
+# pass_name OLD NAME: a longrun gets its new name beside the old one, and its fifo has that alone
 pass_name() {
     pipes=$UNDORC_PLACE/.pipes
     if [ -p "$pipes/$1" ]; then
@@ -169,13 +131,16 @@ pass_name() {
         done
         rm -f "$pipes/$1"
     fi
-    if [ ! -d "$UNDORC_PLACE/$1" ] || [ -e "$UNDORC_PLACE/$2" ]; then return 0; fi
-    case $(state_of "$UNDORC_SCAN/$1") in
-        up*)
-            place=$(readlink "$UNDORC_PLACE/$1") || place=$1
-            ln -sfn "$place" "$UNDORC_PLACE/$2" && ln -sfn "$UNDORC_PLACE/$2" "$UNDORC_SCAN/$2"
-            ;;
-    esac
+    if [ -L "$UNDORC_SCAN/$1" ] && [ ! -e "$UNDORC_SCAN/$2" ]; then
+        ln -sfn "$(readlink "$UNDORC_SCAN/$1")" "$UNDORC_SCAN/$2"
+    fi
+}
+
+# drop_name OLD NAME: a longrun keeps its new name alone
+drop_name() {
+    # The shells of Linux have it.
+    # shellcheck disable=SC3013
+    [ ! "$UNDORC_SCAN/$1" -ef "$UNDORC_SCAN/$2" ] || rm -f "$UNDORC_SCAN/$1"
 }
 
 # drop_pipe OLD NAME: the fifo keeps its old name alone
@@ -183,40 +148,32 @@ drop_pipe() {
     rm -f "$UNDORC_PLACE/.pipes/$2"
 }
 
-# own_copies: gives one to each renamed longrun that is down
-own_copies() {
-    for link in "$UNDORC_PLACE"/*; do
-        [ -L "$link" ] || continue
-        name=${link##*/}
-        [ "$(state_of "$UNDORC_SCAN/$name")" != down ] || own_copy "$name" || return
-    done
-}
-
 # supervise: leaves the supervisor the longruns of the set, and no others
 supervise() {
-    for copy in "$UNDORC_PLACE"/*; do
-        name=${copy##*/}
-        if [ -L "$copy" ] && [ ! -d "$set/$name" ]; then drop_link "$name"; fi
-    done
-    own_copies || echo 'manage: a renamed longrun has no directory of its own' >&2
-    for copy in "$UNDORC_PLACE"/*; do
-        name=${copy##*/}
-        if [ ! -d "$copy" ] || [ -d "$set/$name" ] || is_lent "$name"; then continue; fi
-        case $(state_of "$UNDORC_SCAN/$name") in
+    # Names are separated by newlines.
+    # shellcheck disable=SC2046
+    add_copies $(longruns_of "$set/.db") || true
+    # A scanner that looks now has seen both names.
+    for_pairs drop_name
+    for link in "$UNDORC_SCAN"/*; do
+        name=${link##*/}
+        if [ ! -e "$link/.undorc-print" ] || [ -d "$set/$name" ]; then continue; fi
+        case $(state_of "$link") in
             up*) echo "manage: $name: up, though the database lacks it" >&2 ;;
             *) remove_copy "$name" || echo "manage: $name: its supervisor does not end" >&2 ;;
         esac
     done
-    # Names are separated by newlines.
-    # shellcheck disable=SC2046
-    add_copies $(longruns_of "$set/.db") || true
 }
 
 # settle: what is left to do when an update, an undo or a redo is over, also one that was killed
 settle() {
     [ -e "$UNDORC_PLACE/.from" ] || return 0
     { read -r number was process to next && pairs=$(cat); } < "$UNDORC_PLACE/.from"
-    if [ "$process" != $$ ] && grep -qs -e manage -e machine "/proc/$process/cmdline"; then return 0; fi
+    if [ "$process" != $$ ]; then
+        ! grep -qs -e manage -e machine "/proc/$process/cmdline" || return 0
+        # The undorc that it has started may go on, for an hour at most.
+        within 36000 is_free || return 111
+    fi
     if passes; then
         case $process.$to in
             $$.*) ;;

@@ -101,12 +101,3 @@ unmount_all() {
     mount -o remount,ro / 2> /dev/null
     sync
 }
-
-# end halt|poweroff|reboot: asks the kernel, by the program of this name of busybox or sysvinit
-end() {
-    "$1" -f
-    # The kernel may need a moment.
-    sleep 10
-    echo "$1 -f failed"
-    while :; do sleep 1000; done
-}
