@@ -123,12 +123,14 @@ told 'the settings name the program by its full path'
 # What is removed: all of that, and nothing else.
 cp -R copied removed
 echo mine > removed/usr/share/undorc/machine/mine
+mkdir -p removed/etc/undorc
+echo UNDORC_SUPERVISOR=runit > removed/etc/undorc/settings
 removes() {
     DESTDIR=$room/removed PREFIX=/usr make -s -C "$top" uninstall
 }
 installs removes > out
-(cd removed && find . -type f) >> out
-echo ./usr/share/undorc/machine/mine > out.wanted
+(cd removed && find . -type f | sort) >> out
+printf '%s\n' ./etc/undorc/settings ./usr/share/undorc/machine/mine > out.wanted
 told 'make uninstall removes what was installed, and nothing else'
 (cd removed && find usr/share/doc usr/share/undorc -type d | sort) > out
 printf '%s\n' usr/share/doc usr/share/undorc usr/share/undorc/machine > out.wanted
@@ -266,6 +268,25 @@ told 'make alone, and make check, in an archive'
 tree copied > out.wanted
 tree from >> out
 told 'what an archive installs'
+# edits ROOT: sets something for the site below ROOT
+edits() {
+    mkdir -p "$1/etc/undorc"
+    echo UNDORC_SUPERVISOR=runit > "$1/etc/undorc/settings"
+    chmod 640 "$1/etc/undorc/settings"
+}
+# edited ROOT: what is set there
+edited() {
+    cat "$1/etc/undorc/settings"
+    stat -c %a "$1/etc/undorc/settings"
+}
+edits from
+(
+    cd "$unpacked"
+    PATH=/usr/bin:/bin installs make install DESTDIR="$room/from" PREFIX=/usr
+) > out
+edited from >> out
+printf '%s\n' UNDORC_SUPERVISOR=runit 640 > out.wanted
+told 'make install keeps the settings of a site'
 echo more >> "$unpacked/man/undorc.1"
 if (cd "$unpacked" && make install DESTDIR="$room/other" PREFIX=/usr) > said 2>&1; then
     echo 'it is installed' > out
@@ -318,6 +339,22 @@ if command -v dpkg-deb > /dev/null && command -v strip > /dev/null; then
         printf '%s\n' /etc/undorc/settings undorc "libc6 (>= ${newest#GLIBC_})" 's6 | runit'
     } > out.wanted
     told 'the program of a package is stripped, and named by both sums'
+    if [ "$(id -u)" -eq 0 ]; then
+        mkdir -p system/var/lib/dpkg/info system/var/lib/dpkg/updates
+        : > system/var/lib/dpkg/status
+        # unpacks PACKAGE: as dpkg does on a machine, but for what it needs
+        unpacks() {
+            installs dpkg --root="$room/system" --force-depends --no-triggers -i "$1" < /dev/null
+        }
+        unpacks "$package" > out
+        edits system
+        unpacks "$package" >> out
+        edited system >> out
+        printf '%s\n' UNDORC_SUPERVISOR=runit 640 > out.wanted
+        told 'a package keeps the settings of a site'
+    else
+        skip 'what a package keeps, since only root can install one'
+    fi
     # But for what a package has elsewhere, it has what is installed.
     tree deb/usr | sed -e 's/\.gz / /' -e 's|vendor-completions|site-functions|' | cut -d ' ' -f 1,2 | sort > out
     { tree copied/usr | cut -d ' ' -f 1,2 | grep -v -E '(INSTALLED|LICENSE|INSTALL|\.service) '; echo './share/doc/undorc/PROVED 644'

@@ -1,5 +1,6 @@
 #!/usr/bin/env python3
-"""Fails each call about files of a command, or kills the command there, and looks at what the next command makes of it.
+"""Fails each call about files and scripts of a command, or kills the command there, and looks at what the next command
+makes of it.
 
     tests/outside/calls.py PROGRAM [--all] [NAME..]
 
@@ -48,11 +49,15 @@ ERRORS = {
     "close": ["EIO", "EINTR"],
     "statx": ["EIO", "EACCES"],
     "newfstatat": ["EIO", "EACCES"],
+    "clone": ["EAGAIN", "ENOMEM"],
+    "clone3": ["EAGAIN", "ENOMEM"],
+    "vfork": ["EAGAIN", "ENOMEM"],
+    "wait4": ["EINTR"],
 }
 LOOKS = ("read", "pread64", "close", "statx", "newfstatat", "fcntl")
 # A kill before any other call leaves what a kill before the next one of these does.
 ALTERS = ("write", "pwrite64", "writev", "fallocate", "ftruncate", "fsync", "fdatasync", "rename", "renameat2", "unlink",
-          "mkdir", "fchmod")
+          "mkdir", "fchmod", "clone", "clone3", "vfork", "wait4")
 NEEDS = {
     "one": {"a": [], "b": ["a"], "c": ["b"], "d": ["a"], "e": [], "f": []},
     "two": {"a": [], "b": ["a", "f"], "c": ["b"], "d": ["a"], "e": [], "f": []},

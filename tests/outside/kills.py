@@ -4,9 +4,10 @@
     tests/outside/kills.py PROGRAM [ROUNDS [SEED]]
 
 Scripts of 40 services record what they did. Each round begins a change, an undo, a redo, an update, a restart, or a
-session of three lines, and kills it, or the recovery of an earlier one, at a random moment. After the next command the
-file of the session agrees with what the scripts recorded, but for what was under way; what is live is closed; nothing is
-refused as unfit; and an undo takes the entry back. An update or a restart that was killed is now and then given again,
+session of three lines, and kills it, or the recovery of an earlier one, at a random moment. The next command waits
+for the scripts that still run: no two of one service run at once. After it the file of the session agrees with what the
+scripts recorded, but for what was under way; what is live is closed; nothing is refused as unfit; and an undo takes the
+entry back. An update or a restart that was killed is now and then given again,
 which leaves up what it found up; or it is undone, which restores that and the database. The last line is
 'N passed, M failed'.
 """
@@ -71,8 +72,10 @@ class Machine:
             pause = (number * 7) % 9 + 1
             for way in ("up", "down"):
                 fails = "exit 1; " if name in failing and way == "up" else ""
+                runs = self.path(f"{name}.runs")
                 with open(os.path.join(entry, way), "w") as file:
-                    file.write(f"sleep 0.0{pause}; {fails}echo {way} {name} >> {self.path('done')}\n")
+                    file.write(f"(set -C; : > {runs}) 2> /dev/null || echo {name} >> {self.path('beside')}\n"
+                               f"sleep 0.0{pause}; rm -f {runs}; {fails}echo {way} {name} >> {self.path('done')}\n")
         self.run("compile", "-o", base, tree)
 
     def present(self):
@@ -117,6 +120,11 @@ class Machine:
         """The names whose transitions the run log begins and does not end."""
         return under_way(read(self.path("live.run")))
 
+    def are_named(self, names):
+        """Whether the run log names a process for each of these."""
+        lines = [line.split() for line in read(self.path("live.run")).decode(errors="replace").splitlines()]
+        return names <= {words[2] for words in lines if words[:2] == ["#", "process"]}
+
     def cut_short(self, words, lines, pause):
         """A command that is killed after a pause, if it has not ended by then."""
         process = subprocess.Popen([self.program, *words], env=self.environment(), stdin=subprocess.PIPE,
@@ -154,11 +162,11 @@ def command(machine):
     return ["session", "-w", workers], lines
 
 
-def settle(machine):
-    """The next command, a change of nothing; returns what it told."""
+def settle(machine, *words):
+    """The next command, a change of nothing or of these services; returns what it told."""
     machine.base = machine.present()
-    said = machine.run("change")
-    if said.returncode != 0:
+    said = machine.run("change", *words)
+    if said.returncode != 0 and not (words and said.returncode == 2):
         raise Wrong(f"the next command: {said.stdout}{said.stderr}")
     return said.stderr
 
@@ -170,6 +178,9 @@ def judge(machine, words, unended):
         for need in machine.needs[machine.base][name]:
             if need not in up:
                 raise Wrong(f"{name} is up without {need}")
+    beside = read(machine.path("beside"))
+    if beside:
+        raise Wrong(f"two scripts of one service ran at once: {' '.join(beside.decode().split())}")
     lost = (machine.done() ^ up) - unended
     if lost:
         raise Wrong(f"{' '.join(words)}: forgotten: {' '.join(sorted(lost))}")
@@ -228,14 +239,21 @@ def round_of(machine):
     is_next = machine.draw.random() >= 0.3
     if not is_next:
         machine.cut_short(["change"], "", machine.draw.uniform(0.0, 0.01))
-    wait_for_orphans()
+    # A program whose command is killed before its process stands in the log is not waited for.
+    if not machine.are_named(unended):
+        wait_for_orphans()
     if words[0] in ("update", "restart") and is_next and not is_passed and machine.draw.random() < 0.4:
+        wait_for_orphans()
         machine.agree(machine.done())
         if words[0] == "update":
             repeat(machine, words, base, before)
         else:
             restart_again(machine, words, before)
         return False
+    if machine.draw.random() < 0.3:
+        told = settle(machine, "-w", "8", *unended)
+        judge(machine, words, unended)
+        return "Recovered" in told
     told = settle(machine)
     judge(machine, words, unended)
     is_entered = "Recovered" in told

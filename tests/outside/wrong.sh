@@ -1,8 +1,8 @@
 #!/bin/sh
 # Runs programs that do one thing wrong, each over a topic of program.sh, and looks whether a row
 # fails: tests/outside/wrong.sh PROGRAM [NAME..]. Such a program is wrong/NAME.sh, over the right one. Its
-# head has the topic, and a text that stands in the title of the row. With a program over the right one
-# that does nothing wrong, no such row fails. The last line is 'N passed, M failed, K skipped'.
+# head has the topic, a text that stands in the title of the row, and a tool that the row takes, if any.
+# With a program over the right one that does nothing wrong, no such row fails. The last line is 'N passed, M failed, K skipped'.
 set -eu
 here=$(realpath "$(dirname "$0")")
 right=$(realpath "$1")
@@ -34,6 +34,15 @@ run() {
 
 chmod 755 .
 topics=
+for name; do
+    shift
+    tool=$(head_of takes "$name")
+    if [ -n "$tool" ] && ! command -v "$tool" > /dev/null; then
+        skip "$name, which takes $tool"
+    else
+        set -- "$@" "$name"
+    fi
+done
 for name; do
     topic=$(head_of topic "$name")
     case " $topics " in *" $topic "*) ;; *) topics="$topics $topic" ;; esac

@@ -1,6 +1,6 @@
 # shellcheck shell=sh
 # Runs in a machine: prints each longrun whose supervisor says something else than the session. It
-# looks ten times a second, for three seconds at most, until there is none.
+# looks ten times a second, for ten seconds at most, until there is none.
 
 # state NAME: what the supervisor says
 state() {
@@ -38,7 +38,7 @@ while :; do
     )
     [ -n "$differing" ] || exit 0
     turn=$((turn + 1))
-    if [ "$turn" -gt 30 ]; then
+    if [ "$turn" -gt 100 ]; then
         echo "$differing"
         exit 1
     fi

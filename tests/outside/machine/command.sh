@@ -50,7 +50,17 @@ step 'where the supervisor stands' 'd up wanted
 status 0' 'undorc-machine says'
 step 'lint takes the sources of the machine' 'status 1' 'undorc-machine lint > /run/x'
 is 'it finds what it finds' 'services/d: no readiness' "$(script 'sed "s|.*/services|services|" /run/x')"
+is 'a file that nobody reads is one that undorc does not look at' '/etc/undorc/services/d/depends' \
+    "$(script ': > services/d/depends; cd services
+        undorc compile -v $PWD 2>&1 > /run/x | sed -n "s/^undorc: \(.*\) is not looked at\$/\1/p" > /run/unread
+        ../machine/manage lint 2> /run/x | sed -n "s/: nobody reads it\$//p" | grep -xF -f /run/unread')"
 step 'version' 'status 0' 'undorc-machine version > /run/x && undorc version | cmp - /run/x'
+
+step 'check' 'status 0' 'undorc-machine check'
+is 'check of a daemon that was stopped by hand' 'd live, but down 3' "$(script "
+    case $supervisor in s6) s6-svc -wd -d /run/service/d ;; runit) sv down /run/service/d > /run/x ;; esac
+    echo \$(undorc-machine check || echo \$?)
+    case $supervisor in s6) s6-svc -wu -u /run/service/d ;; runit) sv up /run/service/d > /run/x ;; esac")"
 
 # A user who may not ask the supervisor.
 for name in says drift; do

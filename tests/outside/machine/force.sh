@@ -33,20 +33,20 @@ is 'nothing is up, and nothing is mounted' 'live no' \
     "$(script 'echo $(machine/manage live | head -n 1) $(mountpoint -q /mnt/x || echo no)')"
 step 'drift' 'status 0' machine/drift
 # A command is killed while a daemon with its directory on the mount is on its way up.
-step 'a shutdown after a command that was killed' 'lowered good mnt
+step 'a shutdown after a command that was killed' 'lowered good mnt there
 ok
-status 0' 'UNDORC_SETTLE=3 machine/manage change there > /run/x 2> /run/y & manager=$!
+status 0' 'machine/manage change good > /run/x
+    UNDORC_SETTLE=20 machine/manage change there > /run/x 2> /run/y & manager=$!
     timeout 20 sh -c "until machine/says | grep -q \"^there up\"; do sleep 0.05; done"
     kill -KILL $manager; wait $manager; machine/shutdown'
-is 'it enters what was moved, and names what was on its way' 'shutdown: there is up, and is not live
-undorc: Recovered' "$(script 'grep -x -e "shutdown: .*" -e "undorc: Recovered" /run/told | sort')"
+is 'it enters what was moved, and what has come up since' 'undorc: Recovered' "$(script 'grep -x -e "shutdown: .*" -e "undorc: Recovered" /run/told | sort')"
 is 'nothing is mounted behind it' no "$(script 'mountpoint -q /mnt/x || echo no')"
 step 'a daemon that ignores TERM is started by hand' 'ok
 status 2' "UNDORC_SHUTDOWN=1000; export UNDORC_SHUTDOWN
     case $supervisor in s6) s6-svc -u /run/service/loner ;; runit) sv up /run/service/loner ;; esac
     machine/shutdown"
 is 'it is killed' 'down loner: killed
-shutdown: loner is up, and is not live' "$(told | grep loner | grep -v '^down loner: not down' | sort)"
+shutdown: loner is up, and is not live' "$(told | grep loner | grep -v '^down loner: ended by a signal' | sort)"
 step 'a shutdown where all goes well' 'lowered good mnt
 ok
 status 0' 'machine/manage change good > /run/x; machine/shutdown'

@@ -10,7 +10,7 @@ ok
 status 0' "$kept; undorc compile -o db services; machine/boot"
 step 'boot again, in the same boot' 'ok
 status 0' "$kept; machine/boot"
-# The directory of a longrun that an update has renamed has two names.
+# The directory of a longrun that an update has renamed has its old name.
 step 'an update that renames it' 'ok
 ok
 status 0' "$kept; mv services/d services/e; echo e > services/default/contents
@@ -21,7 +21,7 @@ start_scanner o
 step 'a command before boot is refused' 'status 1' "$kept; machine/manage change default"
 is 'it says why' 'manage: /var/undorc/live is of an earlier boot: call boot' "$(told)"
 # A scanner whose directory was kept, too, starts what it finds there.
-script 'for name in d e; do ln -s "/var/undorc/services/$name" /run/service; done
+script 'ln -s /var/undorc/services/d /run/service/e
     case $UNDORC_SUPERVISOR in s6) s6-svscanctl -a /run/service ;; esac'
 is 'an old daemon is there' 1 "$(within 10 'pgrep -f "^sleep 1000"'; script 'pgrep -c -f "^sleep 1000"')"
 step 'boot after another boot' 'raised e

@@ -42,6 +42,7 @@ member user init-env svc-deaf svc-web
 member user2 svc-main
 longrun svc-main 'until [ -e /run/over ]; do sleep 0.1; done; exit 9'
 longrun svc-halts 'until [ -e /run/over ]; do sleep 0.1; done; exit 5'
+longrun svc-bad 'exit 1'
 printf '#!/bin/sh
 echo 42 > /run/s6-linux-init-container-results/exitcode
 /run/s6/basedir/bin/halt\n' > svc-halts/finish
@@ -49,10 +50,11 @@ chmod +x svc-halts/finish
 
 greeting='two  words
 and a line'
-# contain WORD..: a container of these services
+# contain WORD..: a container of these services; `more` is one more variable of it
+more=MORE=
 contain() {
     rm -f "$keep"/*
-    start g env -i PATH="$path" UNDORC_SUPERVISOR="$supervisor" GREETING="$greeting" \
+    start g env -i PATH="$path" UNDORC_SUPERVISOR="$supervisor" GREETING="$greeting" "$more" \
         UNDORC_SOURCE='/etc/base /etc/s6-overlay/s6-rc.d' sh -c 'mount -t proc proc /proc
         cd /etc/undorc
         undorc compile -o db /etc/base /etc/s6-overlay/s6-rc.d
@@ -93,3 +95,14 @@ contain -n user2 -e svc-main
 script ': > /run/over'
 end_within 30
 is 'the container ends when its main daemon does, with its status' 9 "$status"
+
+# Variables of these images.
+more=S6_BEHAVIOUR_IF_STAGE2_FAILS=1
+contain -n base -n svc-bad sh -c 'echo ran > /var/keep/ran'
+end_within 30
+is 'a command runs behind a boot that failed in part' '0 ran' "$status $(cat "$keep/ran")"
+more=S6_KILL_GRACETIME=4000
+contain -n base sh -c '(trap "sleep 1; echo late > /var/keep/late; exit" TERM; while :; do sleep 0.1; done) &
+    sleep 1'
+end_within 30
+is 'what is left at the end has this time after TERM' late "$(cat "$keep/late")"

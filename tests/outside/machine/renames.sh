@@ -1,6 +1,6 @@
 # shellcheck shell=sh
-# An update that renames longruns: no daemon restarts, no line of a pipeline is lost, and each gets
-# a directory of its new name when it starts the next time.
+# An update that renames longruns: no daemon restarts, no line of a pipeline is lost, and the old names are
+# free at once.
 disk r
 longrun low 'exec sleep 1000'
 longrun a 'exec sleep 1000' low
@@ -22,10 +22,9 @@ status 0' 'undorc compile -o db services; machine/boot'
 pids() {
     for name; do daemon "$name"; done
 }
-# directories: the names under the supervisor, and those that have a directory of their own
+# directories: the names under the supervisor, and the directories
 directories() {
-    script 'cd /run/service; echo *; cd /run/undorc/services
-        for name in *; do [ -L $name ] || printf "%s " $name; done'
+    script 'cd /run/service; echo *; cd /run/undorc/services; echo *'
 }
 pids a log low p1 top > "$room/before"
 script 'cd services
@@ -39,9 +38,9 @@ ok
 status 0' 'machine/manage update -B new -f renames'
 pids alpha logger low p1 top > "$room/after"
 is 'all daemons are the processes that they were' '' "$(diff "$room/before" "$room/after")"
-is 'the longrun that was down has a directory of its own name, and those that are up do not' \
-    'a alpha free log logger low p1 top undorc-pipes
-a free log low p1 top ' "$(directories)"
+is 'the supervisor has the new names alone, and the directories that there were' \
+    'alpha free logger low p1 top undorc-pipes
+a log low p1 spare top' "$(directories)"
 is 'only what differs by more than its name is named as old' \
     'init: p1: has its old copy until it starts again
 init: top: has its old copy until it starts again' "$(told | grep '^init: ')"
@@ -55,7 +54,7 @@ status 0' 'machine/manage live | head -n 1'
 another() {
     echo "pid=\$($(daemon_text "$1")); [ \"\${pid:-0}\" -gt 0 ] && [ \"\$pid\" != $2 ]"
 }
-# A crash and the death of a supervisor, while the directory has its old name.
+# A crash and the death of a supervisor, whose directory has another name than its longrun.
 case $supervisor in s6) supervised='s6-supervise' ;; runit) supervised='runsv' ;; esac
 was=$(daemon alpha)
 script "kill -KILL $was"
@@ -79,18 +78,18 @@ status 0' 'machine/manage restart p1'
 logged=$(script 'wc -l < /run/logged/current')
 is 'what it writes still arrives' yes \
     "$(within 10 "[ \$(wc -l < /run/logged/current) -gt $logged ]" && echo yes)"
-step 'the consumer gets a directory of its own name' 'lowered logger p1
+step 'the consumer restarts' 'lowered logger p1
 ok
 raised logger p1
 ok
 status 0' 'machine/manage restart logger'
-step 'so does another longrun' 'lowered alpha top
+step 'so does a renamed longrun' 'lowered alpha top
 ok
 raised alpha top
 ok
 status 0' 'machine/manage restart alpha'
-is 'the old names are gone' 'alpha free logger low p1 top undorc-pipes
-alpha free logger low p1 top ' "$(directories)"
+is 'their directories are the same' 'alpha free logger low p1 top undorc-pipes
+a log low p1 spare top' "$(directories)"
 is 'each fifo has one name' 'logger' "$(script 'ls /run/undorc/services/.pipes')"
 step 'drift finds nothing' 'status 0' machine/drift
 step 'the producer goes down' 'lowered p1
@@ -110,12 +109,12 @@ status 1' 'cp -r services other; cd other; mv low x; mv alpha low; mv x alpha
     machine/manage update -B new -f renames; ended=$?; ls new > /run/x && echo there; (exit $ended)'
 is 'it says so' "manage: alpha can't become low, since the new database has another longrun alpha" "$(told)"
 is 'no other one has its new name' 'alpha free logger low p1 top undorc-pipes
-alpha free logger low p1 top ' "$(directories)"
+a log low p1 spare top' "$(directories)"
 step 'an update by a file that is refused' 'there
 status 1' 'echo "nobody -> beta" > renames
     machine/manage update -B new -f renames; ended=$?; ls new > /run/x && echo there; (exit $ended)'
 is 'it makes no directory' 'alpha free logger low p1 top undorc-pipes
-alpha free logger low p1 top ' "$(directories)"
+a log low p1 spare top' "$(directories)"
 
 # A name that is free again, while its directory is not.
 step 'a longrun is renamed' 'ok
@@ -123,15 +122,23 @@ ok
 status 0' 'mv services/low services/base; echo base > services/alpha/dependencies
     echo "low -> base" > renames
     undorc compile -o new services; machine/manage update -B new -f renames'
-step 'its old name can not be taken before it restarts' 'there
-status 1' 'cp -r services/free services/low; undorc compile -o new services
-    machine/manage update -B new; ended=$?; ls new > /run/x && echo there; (exit $ended)'
-is 'it says so' 'manage: base has the directory low until it restarts' "$(told)"
-step 'after its restart it can' 'ok
+was=$(daemon base)
+step 'another one gets its old name at once' 'ok
 ok
-status 0' 'machine/manage restart base > /run/x; machine/manage update -B new'
+raised low
+ok
+status 0' 'cp -r services/free services/low; undorc compile -o new services
+    machine/manage update -B new && machine/manage change low'
 is 'both have their directories' 'alpha base free logger low p1 top undorc-pipes
-alpha base free logger low p1 top ' "$(directories)"
+a log low low. p1 spare top' "$(directories)"
+is 'the first one is the process that it was' "$was" "$(daemon base)"
+step 'a restart of the first one' 'lowered alpha base top
+ok
+raised alpha base top
+ok
+status 0' 'machine/manage restart base'
+is 'the other one is up' 'base up wanted
+low up wanted' "$(script 'machine/says base low')"
 step 'a renamed longrun that is removed' 'lowered free
 ok
 ok
@@ -141,8 +148,8 @@ status 0' 'machine/manage change free > /run/x
     rm -r services/loose; undorc compile -o new services
     machine/manage update -B new | sed "s/ loose/ free/"'
 is 'nothing of it is left' 'alpha base logger low p1 top undorc-pipes
-alpha base logger low p1 top ' "$(directories)"
-step 'a shutdown' 'lowered alpha base logger p1 top
+a log low low. p1 top' "$(directories)"
+step 'a shutdown' 'lowered alpha base logger low p1 top
 ok
 status 0' machine/shutdown
 stop

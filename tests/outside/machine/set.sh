@@ -119,11 +119,10 @@ step 'its undo' 'raised nginx nginx-log php-fpm postgres
 ok
 status 0' 'machine/manage undo'
 
-# A command that is killed while a daemon is on its way: given again, it sets things right.
+# A command that is killed while a daemon is on its way: given again, it finds that the daemon has come there.
 script 'machine/manage change -d slow > /run/x 2>&1 &
     sleep 1; kill -KILL "$!"; wait "$!"; sleep 3' 2> "$room/said"
-step 'a command after one that was killed' 'lowered slow
-ok
+step 'a command after one that was killed' 'ok
 status 0' 'machine/manage change -d slow'
 step 'the machine is whole again' 'raised slow
 ok

@@ -88,8 +88,7 @@ ok
 raised kept
 ok
 status 0' 'machine/manage restart kept'
-is 'it has a directory of its new name alone' kept \
-    "$(script 'cd /run/undorc/services; ls -d kept old 2> /dev/null')"
+is 'it has its new name alone' kept "$(script 'cd /run/service; ls -d kept old 2> /dev/null')"
 was=$(daemon kept)
 step 'an undo after it takes the update back' 'raised a gone
 status 0' 'machine/manage undo | grep raised'
@@ -172,4 +171,22 @@ step 'undo of an update that was killed' 'raised b
 ok
 status 0' 'machine/manage undo'
 is 'it runs the run before again' v11 "$(script 'cat /run/v.b')"
+stop
+
+# The script that makes an update is killed, and its undorc goes on: the next command waits for that.
+disk h
+longrun b "echo v1 > /run/v.b; trap 'sleep 3; exit 0' TERM; while :; do sleep 0.1; done"
+bundle default b
+start_scanner h
+step 'boot of what is updated' 'raised b
+ok
+status 0' 'undorc compile -o db services; machine/boot'
+script 'sed -i s/v1/v2/ services/b/run; undorc compile -o new services
+    machine/manage update -B new -R b & manager=$!
+    timeout 30 sh -c "until pgrep -f \"undorc updat[e] -b\"; do sleep 0.02; done"
+    kill -KILL $manager; wait $manager' > "$room/said" 2>&1
+step 'a command after an update whose script was killed' 'ok
+status 0' 'machine/manage change default'
+is 'the update was made' v2 "$(script 'cat /run/v.b')"
+step 'drift finds nothing behind it' 'status 0' machine/drift
 stop

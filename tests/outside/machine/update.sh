@@ -163,16 +163,15 @@ done
 script 'mv services/slow services/slower; sed -i s/slow/slower/ services/default/contents
     echo "slow -> slower restart" > renames; undorc compile -o new services
     UNDORC_SETTLE=10 machine/manage update -B new -f renames > /run/said 2> /run/y & manager=$!
-    timeout 30 sh -c "until UNDORC_DB=/etc/undorc/new machine/says | grep -q \"^slower up\" &&
+    timeout 90 sh -c "until UNDORC_DB=/etc/undorc/new machine/says | grep -q \"^slower up\" &&
         test ! -L /run/undorc/services/slower; do sleep 0.05; done"
     kill -KILL $manager $(pgrep -x undorc); wait $manager' 2> "$room/said"
-is 'a shutdown after it goes by NEW' 'lowered low net
+is 'a shutdown after it goes by NEW' 'lowered low net slower
 ok
 status 0' "$(does machine/shutdown)"
 is 'it brings down what was on its way, too' 'low down
 slower down' "$(script 'UNDORC_DB=/etc/undorc/new machine/says')"
-is 'it says so' 'shutdown: an update to /etc/undorc/new was cut short
-shutdown: slower is up, and is not live' "$(told | grep ^shutdown:)"
+is 'it says so' 'shutdown: an update to /etc/undorc/new was cut short' "$(told | grep ^shutdown:)"
 stop
 
 # An update that can't lower everything.

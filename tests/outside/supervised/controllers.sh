@@ -45,8 +45,10 @@ holds 'init starts nothing' none_started
 find services | sort > after
 holds 'the sources are as before' cmp before after
 
+controls 3 state plain down
 controls 0 up plain up
 controls 0 up plain up
+controls 0 state plain up
 begun=$(date +%s%N)
 controls 0 up slow up
 holds 'readiness is waited for' test $(($(date +%s%N) - begun)) -ge 1000000000

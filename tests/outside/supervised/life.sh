@@ -61,7 +61,7 @@ does 0 'lowered app web\nok\n' "$folder/manage" change -d app
 does 0 'raised app web\nok\n' "$folder/manage" change web
 
 # A session that is killed while slow is on its way: its controller goes on, and live does not know of it. That is told, and
-# the next command makes it true.
+# the next command asks the controller, which says that slow is up.
 does 0 'lowered slow web\nok\n' "$folder/manage" change -d slow
 "$folder/manage" change web > out 2> told &
 session=$!
@@ -75,7 +75,7 @@ wants 'slow: not live, but up wanted\n' "$cut$cut"
 echo 0 > status
 "$folder/drift" > out 2> err || echo $? > status
 judges 'drift behind a session that was killed' 1
-does 0 'raised slow web\nok\n' "$folder/manage" change web
+does 0 'raised web\nok\n' "$folder/manage" change web
 
 # A signal calls a change off: slow comes up, web is not tried, and neither undorc nor a controller is left. Where env can't
 # block signals, it is the same.

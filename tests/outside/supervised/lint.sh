@@ -5,6 +5,7 @@ here=$(realpath "$(dirname "$0")/..")
 program=$(realpath "$1")
 # shellcheck source=../../lib/library.sh
 . "$here/../lib/library.sh"
+export UNDORC_PROGRAM="$program"
 program=$here/../../contrib/lint
 
 # entry KIND NAME: one that has all that lint asks for
@@ -60,32 +61,32 @@ expect 1 'tree/disk/timeout-up: no limit\ntree/web/timeout-up: no limit\ntree/we
 unset UNDORC_USUAL
 finds 'tree/disk/timeout-up: no limit\ntree/web/timeout-up: no limit\ntree/web/timeout-down: no limit\n'
 
-# Ends of pipelines that init does not join, a logger that gets nothing, and names that are taken.
+# A run without the right to run, a logger that gets nothing, and names that are taken.
 echo log > tree/web/producer-for
 mkdir tree/web/log
 chmod -x tree/web/run
 entry longrun undorc-pipes
-finds 'tree/undorc-pipes: name is taken\ntree/web/run: no right to run\ntree/web/producer-for: not joined\ntree/web/log: log gets nothing\n'
+finds 'tree/undorc-pipes: name is taken\ntree/web/log: log gets nothing\ntree/web/run: no right to run\n'
 
 # The right to run.
 chmod -x tree/web/run
 : > tree/web/finish
 : > tree/web/check
-finds 'tree/web/run: no right to run\ntree/web/finish: no right to run\ntree/web/check: no right to run\n'
+finds 'tree/web/check: no right to run\ntree/web/finish: no right to run\ntree/web/run: no right to run\n'
 
 # The interpreter.
 printf '#!/nowhere/sh -e\n' | tee tree/web/run > tree/web/check
 chmod +x tree/web/check
 printf '#! /bin/sh -e\n' > tree/web/finish
 chmod +x tree/web/finish
-finds 'tree/web/run: no interpreter\ntree/web/check: no interpreter\n'
+finds 'tree/web/check: no interpreter\ntree/web/run: no interpreter\n'
 
 # Windows line ends, in texts and in the names of folders of names.
 printf 'mkdir q\r\n' > tree/disk/up
 printf 'disk\r\n' > tree/web/dependencies
 mkdir tree/all/contents.d
 : > "$(printf 'tree/all/contents.d/disk\r')"
-finds 'tree/all/contents.d/disk\r: carriage return\ntree/disk/up: carriage return\ntree/web/dependencies: carriage return\n'
+finds 'tree/disk/up: carriage return\ntree/web/dependencies: carriage return\n'
 
 # Files that nobody reads: misspelt ones, those of another kind, and links that lead nowhere. What a supervisor reads of a
 # longrun is none.
@@ -93,10 +94,12 @@ finds 'tree/all/contents.d/disk\r: carriage return\ntree/disk/up: carriage retur
 : > tree/disk/run
 : > tree/all/dependencies
 ln -s nowhere tree/web/content
-mkdir tree/web/data tree/web/env tree/web/log tree/web/supervise tree/web/event
+mkdir tree/web/data tree/web/env tree/web/log tree/web/root tree/web/supervise tree/web/event
+: > tree/web/flag-newpidns
 echo 1000 > tree/web/timeout-kill
 : > tree/web/down
-finds 'tree/all/dependencies: nobody reads it\ntree/disk/depends: nobody reads it\ntree/disk/run: nobody reads it\ntree/web/content: nobody reads it\n'
+rm tree/all/contents
+finds 'tree/all/dependencies: nobody reads it\ntree/all: no contents\ntree/disk/depends: nobody reads it\ntree/web/content: nobody reads it\n'
 
 # What is no entry, and what is no source.
 mkdir tree/.hidden tree/none tree/daemon

@@ -61,6 +61,7 @@ newcomer() {
     echo 'mkdir q' > services/disk/up
     echo longrun > services/web/type
     : > services/web/run
+    chmod u+x services/web/run
     echo disk > services/web/dependencies
     echo bundle > services/all/type
     printf 'web\ndisk\n' > services/all/contents
@@ -175,26 +176,56 @@ runs compile -v services
 : > out
 judge 'compile -v tells no more than that' 0
 
-# An end of a pipeline whose run is not executable.
+# noted WHAT LINE..: these are all the lines of `compile -v`
+noted() {
+    what=$1
+    shift
+    wants '' ''
+    for line; do printf 'undorc: services/%s\n' "$line"; done > err.wanted
+    : > in
+    runs compile -v services
+    : > out
+    judge "$what" 0
+}
+
+# Files that a supervisor can't run.
 newcomer
-echo longrun > services/disk/type
-mv services/disk/up services/disk/run
-echo disk > services/web/producer-for
-echo web > services/disk/consumer-for
-unjoined=' is not joined (run is not executable)'
-notes "undorc: services/web/producer-for$unjoined" compile -v services
-notes "undorc: services/disk/consumer-for$unjoined" compile -v services
-chmod u+x services/web/run
-wants '' "undorc: services/disk/consumer-for$unjoined\n"
-runs compile -v services
-: > out
-judge 'an end whose run is executable is joined' 0
-printf '# nobody\n' > services/disk/consumer-for
-rm services/web/producer-for
-wants '' ''
-runs compile -v services
-: > out
-judge 'a file without a name is no end' 0
+chmod a-x services/web/run
+: > services/web/finish
+: > services/web/check
+: > services/disk/run
+noted 'files of a longrun without the right to run' 'web/check is not executable' \
+    'web/finish is not executable' 'web/run is not executable'
+chmod o+x services/web/run
+chmod g+x services/web/finish services/web/check
+noted 'files that somebody may run'
+
+# Scripts whose interpreter does not exist, or can't be run.
+newcomer
+: > services/web/finish
+chmod +x services/web/finish
+echo '#!/nowhere/sh' > services/web/run
+echo '#!/nowhere/execlineb -P' > services/disk/up
+printf '#! \t/etc/passwd\t-e' > services/disk/down
+printf '#!/bin/sh\r\n' > services/web/finish
+noted 'interpreters that do not exist, or are no program' 'disk/down: no interpreter "/etc/passwd"' \
+    'disk/up: no interpreter "/nowhere/execlineb"' 'web/finish: no interpreter "/bin/sh\r"' \
+    'web/run: no interpreter "/nowhere/sh"'
+printf '#! /bin/sh -e\n' > services/web/run
+printf '#!\t/bin/sh' > services/disk/up
+printf '#!/bin/sh\n/nowhere\n' > services/disk/down
+printf ' #!/nowhere\n' > services/web/finish
+noted 'interpreters that exist'
+echo '#!sh -e' > services/web/run
+printf '#!\n/bin/sh\n' > services/web/finish
+echo '#/nowhere' > services/disk/up
+echo '!/nowhere' > services/disk/down
+noted 'names without a slash in front, and none' 'web/finish: no interpreter ""' 'web/run: no interpreter "sh"'
+cp /bin/true services/web/sh
+cp /bin/true services/web/finish
+chmod u+x services/web/sh
+rm services/disk/down
+noted 'one that stands beside the script' 'web/sh is not looked at'
 
 # A database in a file, which a refused run leaves as it was.
 newcomer

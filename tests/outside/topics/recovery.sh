@@ -50,9 +50,9 @@ scripts_ran() {
     judge "$1" 0
 }
 
-# lines_of LOG: it without the room that is reserved behind its lines
+# lines_of LOG: it without the room that is reserved behind its lines, and without the names of processes
 lines_of() {
-    sed '/^ *$/d' "$1"
+    sed -e '/^ *$/d' -e '/^# process /d' "$1"
 }
 
 for signal in KILL TERM INT HUP QUIT; do
@@ -203,8 +203,9 @@ hear
 tell 'change top'
 until_begun
 lines_of live.run | sed '1,/^end$/d' >> out
-# By its path: another build may be tested at the same time.
-pkill -KILL -f "$program session -b base -l live -w 1\$"
+# The lock names its process. Others of this name may be under test at the same time.
+read -r owner _ < live.lock
+kill -KILL "$owner"
 exec 3>&-
 cat <&4 >> out
 exec 4<&-
@@ -309,8 +310,9 @@ rm -f live ran go begun
 called=$!
 until_begun
 expect 0 'live\nok\n' 'undorc: a command is under way\n' '' live -b base -l live
-expect 0 '' '' '' cancel -l live
-expect 0 '' 'undorc: live is being stopped: what is under way there ends\n' '' cancel -l live
+# Each time it says what it waits for: what has begun and has not ended.
+expect 0 '' 'undorc: slow is under way\n' '' cancel -l live
+expect 0 '' 'undorc: live is being stopped: what is under way there ends\nundorc: slow is under way\n' '' cancel -l live
 : > go
 echo 0 > status
 wait "$called" || echo $? > status
@@ -336,12 +338,29 @@ for signal in cancel TERM INT HUP; do
     fi
     called=$!
     until_begun
-    if [ "$signal" = cancel ]; then UNDORC_LIVE=live "$program" cancel; else kill "-$signal" "$called"; fi
+    if [ "$signal" = cancel ]; then UNDORC_LIVE=live "$program" cancel 2> told; else kill "-$signal" "$called"; fi
     : > go
     wait "$called" || echo $? > status
     wants 'raised a b slow\nuntried top\nok\n' ''
     judge "a change that is called off by $signal" 2
 done
+
+# What ends after the call is reported with the time that has passed since the command began.
+rm -f live ran go begun
+"$program" change -v -w 1 slow -b base -l live < /dev/null > out 2> told &
+called=$!
+until_begun
+"$program" cancel -l live
+sleep 1.1
+: > go
+wait "$called" || true
+sed -n 's/^undorc: *\([0-9]*\)\.[0-9]* s  up slow: ok$/\1/p' told > out
+read -r seconds < out || seconds=none
+if [ "$seconds" -ge 1 ] && [ "$seconds" -lt 60 ]; then echo soon > out; fi
+wants 'soon\n' ''
+: > err
+echo 0 > status
+judge 'the time of what ends after the call' 0
 
 # ^C at a terminal goes to the scripts, too. It ends the program, and the next command recovers it; under `orderly` the
 # script that is under way ends well, and the program in order.
@@ -423,8 +442,22 @@ for turn in $(seq 250); do
 done
 : > go
 wait "$called" || echo $? > status
-wants 'raised a b slow\nuntried top\nok\n' ''
+wants 'raised a b slow\nuntried top\nok\n' 'undorc: slow is under way\n'
 judge 'orderly where env blocks nothing' 2
+
+# The status is that of the command also where it ends while the trap runs.
+rm -f live ran go begun
+echo 0 > status
+printf '#!/bin/sh\nif [ "$1" = cancel ]; then "%s" "$@"; : > go; sleep 1; else exec "%s" "$@"; fi\n' "$program" "$program" > slowly
+chmod 755 slowly
+PATH=$PWD/plain:$PATH UNDORC_PROGRAM=$PWD/slowly sh "$top/contrib/orderly" change -w 1 top -b base -l live < /dev/null > out 2> told &
+called=$!
+until_begun
+kill -TERM "$called"
+wait "$called" || echo $? > status
+: > err
+wants 'raised a b slow\nuntried top\nok\n' ''
+judge 'orderly whose command ends while its trap runs' 2
 
 # One that waits there for another ends, and the other one is not called off.
 rm -f live ran go begun
@@ -495,7 +528,7 @@ for what in 'rm live.stop' 'printf "stop 1" >> live.stop'; do
     called=$!
     until_begun
     sh -c "$what"
-    expect 0 '' '' '' cancel -l live
+    expect 0 '' 'undorc: slow is under way\n' '' cancel -l live
     : > go
     echo 0 > status
     wait "$called" || echo $? > status
@@ -511,7 +544,7 @@ if command -v strace > /dev/null; then
     "$program" change -w 1 top -b base -l live < /dev/null > out 2> err &
     called=$!
     until_begun
-    ASAN_OPTIONS=detect_leaks=0 strace -f -o trace -e trace=write "$program" cancel -l live
+    ASAN_OPTIONS=detect_leaks=0 strace -f -o trace -e trace=write "$program" cancel -l live 2> told
     : > go
     wait "$called" || true
     grep -c 'write(.*stop' trace > out || true
@@ -532,7 +565,7 @@ hear
 rm live.stop
 tell '-t 60000 change top'
 until_begun
-"$program" cancel -l live || echo "$?" >> out
+"$program" cancel -l live 2> told || echo "$?" >> out
 : > go
 hear
 wants 'raise a b slow top\nok\nraised a b slow\nuntried top\nok\n' ''
@@ -543,7 +576,7 @@ rm -f live ran go begun
 begins -b base -l live -w 1
 tell '-t 60000 change top'
 until_begun
-"$program" cancel -l live || echo "$?" >> out
+"$program" cancel -l live 2> told || echo "$?" >> out
 : > go
 hear
 ended=0
@@ -563,7 +596,7 @@ echo 0 > status
 "$program" change -t 0 -w 1 top -b base -l live < /dev/null > out 2> err &
 called=$!
 until_begun
-"$program" cancel -l live
+"$program" cancel -l live 2> told
 : > go
 wait "$called" || echo $? > status
 wants 'raised a b slow top\nok\n' ''
@@ -704,7 +737,7 @@ for room in $(seq 4 4 64); do
     echo "restart: $status live $("$1" live -b few -l disk/live | head -n 1 | wc -w)"
     "$1" add both s1 s2 -f -b few -l disk/live > said 2>> err || echo "edit: $?"
 done
-for room in $(seq 4 4 64); do
+for room in $(seq 4 4 128); do
     head -c 1000000 /dev/zero >> disk/filler 2> /dev/null
     truncate -s "$((256 * 1024 - 8192 - room * 1024))" disk/filler
     status=0

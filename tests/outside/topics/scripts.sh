@@ -58,7 +58,7 @@ oneshot stubborn "sh -c 'trap \"\" TERM; echo \$\$ > ignoring; while :; do sleep
 for name in nested stubborn; do limit $name 1; done
 # gone FILE: the process of this number has ended, though nobody may have waited for it
 gone() {
-    case $(ps -o stat= -p "$(cat "$1")") in '' | Z*) ;; *) return 1 ;; esac
+    case $(sed -n 's/^State:[[:space:]]*//p' "/proc/$(cat "$1")/status" 2> /dev/null) in '' | Z*) ;; *) return 1 ;; esac
 }
 for workers in 1 2; do
     rm -f inner ignoring
