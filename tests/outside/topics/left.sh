@@ -9,19 +9,19 @@ cd left
 # file `go`. `short` does, too, and has a limit.
 begin_tree
 oneshot base 'echo "base begins" >> record; echo "base ends" >> record'
-waiting='for turn in $(seq 400); do [ ! -e go ] || break; sleep 0.02; done'
+waiting='for turn in $(seq 2000); do [ ! -e go ] || break; sleep 0.02; done'
 oneshot web "echo \"web begins\" >> record; $waiting; echo \"web ends\" >> record" base
 oneshot short "echo \"short begins\" >> record; $waiting; echo \"short ends\" >> record"
-limit short 700
+limit short 3000
 "$program" compile tree > made
 
 # cut_off NAME: a change that is killed while the script of this service runs, once the log names that
 cut_off() {
-    rm -f go record live live.run
+    rm -f go record live live.run err
     "$program" change "$1" -b made -l live < /dev/null > /dev/null 2>&1 &
     killed=$!
-    within 250 grep -qs "$1 begins" record
-    within 250 grep -qs "^# process $1 " live.run
+    within 1000 grep -qs "$1 begins" record
+    within 1000 grep -qs "^# process $1 " live.run
     kill -KILL "$killed"
     wait "$killed" 2> /dev/null || true
 }
@@ -33,6 +33,11 @@ within() {
         ! "$@" || break
         sleep 0.02
     done
+}
+# lets_go: once a command has told that it waits, the script goes on
+lets_go() {
+    within 1000 grep -qs 'waits for' err
+    : > go
 }
 # gives WHAT OUTPUT RECORD WORDS..: the next command writes this, what it tells among it, and this is the record after it
 gives() {
@@ -55,17 +60,17 @@ pid=$(sed -n 's/^# process web \([0-9]*\) .*/\1/p' live.run)
 holds 'it is that of the script' kill -0 "$pid"
 
 # The next command waits until it has ended, whatever that command is.
-(sleep 1; : > go) &
+lets_go &
 gives 'the same change' "undorc: web: waits for $left\nundorc: Recovered\n  raised base\n  failed web\nraised web\nok\n" \
     'base begins\nbase ends\nweb begins\nweb ends\nweb begins\nweb ends\n' change web
 wait
 cut_off web
-(sleep 1; : > go) &
+lets_go &
 gives 'a command that starts nothing' "undorc: web: waits for $left\nundorc: Recovered\n  raised base\n  failed web\nok\n" \
     'base begins\nbase ends\nweb begins\nweb ends\n' seal
 wait
 cut_off web
-(sleep 1; : > go) &
+lets_go &
 printf 'live\n' > in
 printf "undorc: web: waits for %s\nundorc: Recovered\n  raised base\n  failed web\nlive base\nok\n" "$left" > left.wanted
 "$program" session -b made -l live < in > out 2> err
@@ -77,8 +82,8 @@ wait
 cut_off web
 expect 0 'live\nok\n' 'undorc: a command was cut short: the next one enters what it has moved\n' '' live -b made -l live
 : > go
-within 250 grep -q 'web ends' record
-within 250 sh -c "! kill -0 $(sed -n 's/^# process web \([0-9]*\) .*/\1/p' live.run) 2> /dev/null"
+within 1000 grep -q 'web ends' record
+within 1000 sh -c "! kill -0 $(sed -n 's/^# process web \([0-9]*\) .*/\1/p' live.run) 2> /dev/null"
 gives 'it has ended' 'undorc: Recovered\n  raised base\n  failed web\nok\n' \
     'base begins\nbase ends\nweb begins\nweb ends\n' change
 cut_off web
@@ -90,6 +95,7 @@ gives 'another one' 'undorc: Recovered\n  raised base\n  failed web\nok\n' 'base
 cut_off short
 pid=$(sed -n 's/^# process short \([0-9]*\) .*/\1/p' live.run)
 gives 'a limit' "undorc: short: waits for $left\nundorc: Recovered\n  failed short\nok\n" 'short begins\n' change
+within 1000 sh -c "! kill -0 $pid 2> /dev/null"
 holds 'then it is ended' sh -c "! kill -0 $pid 2> /dev/null"
 
 # A run log without such lines is entered as before, and a line of another form is a comment.

@@ -23,13 +23,23 @@ shown() {
     : > err
     echo 0 > status
 }
-# until_begun: waits until `slow` has begun
+# until_begun: waits until `slow` has begun, and the run log names its process
 until_begun() {
-    for turn in $(seq 250); do
-        [ ! -s begun ] || return 0
+    for turn in $(seq 1000); do
+        if [ -s begun ] && grep -qs '^# process slow ' live.run; then return 0; fi
         sleep 0.02
     done
     echo 'slow did not begin' >> err
+}
+# slow_goes_on: lets `slow` go on, and waits until its process has ended
+slow_goes_on() {
+    : > go
+    process=$(sed -n 's/^# process slow \([0-9]*\) .*/\1/p' live.run | tail -n 1)
+    for turn in $(seq 1000); do
+        grep -qs '^State:.[^XZ]' "/proc/$process/status" || return 0
+        sleep 0.02
+    done
+    echo 'slow did not end' >> err
 }
 # cut SIGNAL WORDS..: a command that this signal ends while `slow` is under way
 cut() {
@@ -41,7 +51,7 @@ cut() {
     until_begun
     kill "-$signal" "$killed"
     wait "$killed" 2> /dev/null || true
-    : > go
+    slow_goes_on
 }
 # scripts_ran WHAT LINES: what the scripts did
 scripts_ran() {
@@ -87,11 +97,7 @@ printf 'undorc: Recovered\n  raised a b\n  failed slow\n  blocked top\n' > told.
 cmp -s told told.wanted || cat told >> out
 wants 'ok\n' 'undorc: Recovered\n'
 judge 'a recovery reports what was moved' 0
-# The same command again completes. What the killed one had begun goes on, and ends before that.
-for turn in $(seq 250); do
-    ! grep -qx 'up slow' ran || break
-    sleep 0.02
-done
+# The same command again completes. What the killed one had begun has gone on, and has ended.
 : > ran
 expect 0 'raised slow top\nok\n' '' '' change -w 1 b top -b base -l live
 scripts_ran 'the same command again' 'up slow\nup top\n'
@@ -210,8 +216,8 @@ exec 3>&-
 cat <&4 >> out
 exec 4<&-
 wait
-: > go
 : > err
+slow_goes_on
 echo 0 > status
 wants 'raised a\nok\n-t 1 -u change top\ntake 1 b\ndone 1 b ok\ntake 1 slow\n' ''
 judge 'the third line of a session that is killed' 0
@@ -252,7 +258,7 @@ killed_update() {
     until_begun
     kill -KILL "$killed"
     wait "$killed" 2> /dev/null || true
-    : > go
+    slow_goes_on
 }
 half next base
 expect 0 'at 1 of 2\n0 +a +b +slow\nok\n' 'undorc: Recovered\n' 'journal\n' session -b next -l live -x none
