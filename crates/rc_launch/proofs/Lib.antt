@@ -8,6 +8,8 @@ mod RecoveryLemmas
 mod Noting
 -- An undo or a redo after which the services of the next state are live has come to that state.
 mod NextStates
--- What is launched as an undo or a redo of one line, and is done, is a run inside the present
--- generation of a history.
+-- What an undo or a redo leaves that ends with status 1 or 2, step by step.
+mod HaltLemmas
+-- What is launched as an undo or a redo of one line is a run inside the present generation of a
+-- history, or is refused.
 mod TravelLemmas

@@ -1,6 +1,8 @@
 -- The history that the store of a session holds.
-use Rattle.std.specs.Prelude.{◌≡◌, ℕ, List, Option, None, Some, option_map}
+use Rattle.std.specs.Prelude.{◌≡◌, ◌&&◌, ℕ, Bool, not, List, Option, None, Some, option_map}
 use Rattle.rc_historytext.specs.Framing.{IsFraming}
+use Rattle.rc_historytext.specs.Keeping.{StandsThere}
+use Rattle.rc_historytext.specs.Present.{StandingText, StandsAt, crosses, has_inside}
 use Rattle.rc_historytext.specs.declared.keeping.Keeping.TheVariants.{Way}
 use Rattle.rc_launch.specs.declared.live_store.Frame.{Frame}
 use Rattle.rc_launch.specs.declared.live_store.Frame.TheVariants.{Alone, History}
@@ -45,6 +47,20 @@ IsLedFrom was other = ⊥
 
 abbrev pub WasLedFrom : LiveStore → (was : List ℕ) → Type 0
 WasLedFrom store was = IsLedFrom was store.frame
+
+-- the session that a store kept last stands in this history
+abbrev pub KeepsIn : (was : List ℕ) → LiveStore → Type 0
+KeepsIn was store = (kept : List ℕ) → session_kept store ≡ Some kept → StandsThere was kept
+
+-- it stands in the history that the store holds
+abbrev pub KeepsThere : LiveStore → Type 0
+KeepsThere store = (was : List ℕ) → history_held store ≡ Some was → KeepsIn was store
+
+-- whether the next step of an undo (not `on`) or a redo crosses a border, from where a history
+-- stands
+abbrev pub MeetsBorder : (on : Bool) → (history : List ℕ) → Bool → Type 0
+MeetsBorder on history meets = (at : StandingText) × StandsAt history at
+    × (meets ≡ (not (has_inside on at) && crosses on at))
 
 -- the history that was read from the file of a session, if one stood there
 abbrev pub history_found : LiveText → Option (List ℕ)

@@ -21,6 +21,8 @@ pub mod Beside
 pub mod Opening
 -- The history that the store of a session holds.
 pub mod HeldHistory
+-- What an undo or a redo of a history leaves of its text that ends with status 1 or 2.
+pub mod Halted
 -- An undo or a redo is asked for, and led so.
 pub mod Ways
 -- What a command comes to on what was read for it.

@@ -1,7 +1,8 @@
 //! Where the steps of an undo or a redo lead, and whether the borders on the way are joined: no
 //! service has to move where one is crossed.
-ghost use Rattle.std.specs.Prelude.{IfOk, IsTrue};
-ghost use Rattle.rc_historytext.specs.Travelling.{GoesOn, IsAtBorder};
+ghost use Rattle.std.specs.Prelude.{IfOk};
+ghost use Rattle.rc_historytext.specs.Travelling.{GoesOn};
+ghost use Rattle.rc_launch.specs.HeldHistory.{MeetsBorder};
 
 use rc_db::Db;
 use rc_dbtext::database_of;
@@ -31,7 +32,7 @@ pub(crate) fn goes_on_behind(
 
 /// Returns true if the next step of an undo or a redo crosses a border.
 pub(crate) fn is_border(alloc: Global, history: &[u8], is_on: bool) -> Result<bool, HistoryFault>
-    ensures { IfOk result (λ is. IsTrue is → IsAtBorder is_on history.now) }
+    ensures { IfOk result (MeetsBorder is_on history.now) }
 {
     match standing_of(alloc, history) {
         Ok(standing) => Ok(!standing.has_inside(is_on) && standing.crosses_behind(is_on)),

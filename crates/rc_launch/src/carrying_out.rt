@@ -2,7 +2,9 @@
 ghost use Rattle.std.specs.Prelude.{◌≡◌, ℕ, Bool, IsTrue};
 ghost use Rattle.rc_streams.specs.Noting.{HasFailed};
 ghost use Rattle.rc_cli.specs.Storing.{store_of};
+ghost use Rattle.rc_historytext.specs.Halting.{Halts};
 ghost use Rattle.rc_historytext.specs.Travelling.{Travels};
+ghost use Rattle.rc_launch.specs.Halted.{HasHalted, IsRefusedOn};
 ghost use Rattle.rc_launch.specs.HeldHistory.{Leads};
 ghost use Rattle.rc_launch.specs.Loading.{NamesFile};
 ghost use Rattle.rc_launch.specs.Ways.{AsksWay, IsLedOn, IsWayLine};
@@ -52,6 +54,18 @@ pub fn carry_out<'x, T: Threads + Wait + Sync, R: Read, W: Write, F: Write>(
         NamesFile opened.now.loaded → result.code ≡ 0 →
         Leads (store_of devices.old.outputs.keeper) (store_of devices.new.outputs.keeper)
         (Travels on) }
+
+    // One with status 1 or 2 has taken whole steps, and left what remains of one more.
+    ensures halts { (on : Bool) (limit : ℕ) → AsksWay opened.now.loaded.command on limit →
+        NamesFile opened.now.loaded → HasHalted result.code →
+        Leads (store_of devices.old.outputs.keeper) (store_of devices.new.outputs.keeper)
+        (Halts on) }
+
+    // One with status 1 has crossed borders alone, and left the line of states as it was.
+    ensures refused { (on : Bool) (limit : ℕ) → AsksWay opened.now.loaded.command on limit →
+        NamesFile opened.now.loaded → result.code ≡ 1 →
+        Leads (store_of devices.old.outputs.keeper) (store_of devices.new.outputs.keeper)
+        (IsRefusedOn on) }
 {
     let execution = Execution {
         rt,

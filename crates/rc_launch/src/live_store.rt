@@ -10,8 +10,8 @@ ghost use Rattle.rc_launch.specs.Beside.{AreRunsOf, IsLocked};
 ghost use Rattle.rc_launch.specs.Loading.{session_in};
 ghost use Rattle.rc_launch.specs.Opening.{LocksFor, Replaces};
 ghost use Rattle.rc_historytext.specs.Updating.{IsCrossed, IsSettled};
-ghost use Rattle.rc_launch.specs.HeldHistory.{IsAlone, IsFrameOf, Leads, WasLedFrom, history_held};
-ghost use Rattle.rc_launch.specs.HeldHistory.{history_found, session_kept};
+ghost use Rattle.rc_launch.specs.HeldHistory.{IsAlone, IsFrameOf, KeepsThere, Leads, WasLedFrom};
+ghost use Rattle.rc_launch.specs.HeldHistory.{history_found, history_held, session_kept};
 ghost use Rattle.rc_launch.specs.declared.live_store.Frame.TheVariants as frame;
 
 use crate::loading::Loaded;
@@ -205,7 +205,8 @@ impl<'a> LiveStore<'a> {
     /// Prepares the store for one line of an undo or a redo: what is kept from now on is kept in
     /// the history as it is now.
     pub(crate) fn begin_way(&mut self) -> Result<(), KeepFault>
-        ensures { OnOk result (history_held self.new ≡ history_held self.old) }
+        ensures history { OnOk result (history_held self.new ≡ history_held self.old) }
+        ensures stands { OnOk result (KeepsThere self.new) }
     {
         let Frame::History(framed) = &self.frame else {
             return Ok(());
@@ -227,7 +228,7 @@ impl<'a> LiveStore<'a> {
 
     /// Returns true if the history is what an undo or a redo makes of the given one.
     pub(crate) fn was_led_from(&self, history: &[u8]) -> bool
-        ensures { IsTrue result → WasLedFrom self.now history.now }
+        ensures { IsTrue result ↔ WasLedFrom self.now history.now }
     {
         match &self.frame {
             Frame::History(framed) => framed.was_kept_in(history, Keeping::Way),

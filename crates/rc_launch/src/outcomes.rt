@@ -1,6 +1,7 @@
 //! The statuses of a command of several steps, and what it writes beside the answers of its steps.
-ghost use Rattle.std.specs.Prelude.{◌≡◌, ◌≢◌};
+ghost use Rattle.std.specs.Prelude.{◌≡◌, ◌≢◌, ◌⊎◌};
 ghost use Rattle.rc_cli.specs.Storing.{store_of};
+ghost use Rattle.rc_launch.specs.Halted.{IsBehindRun};
 
 use rc_cli::sessions::Devices;
 use rc_serve::KeepFault;
@@ -15,7 +16,7 @@ const HINDERED: u8 = 2;
 
 /// Returns the status of a command that ended with this code after a part of it was carried out.
 pub(crate) fn hindered(code: u8) -> u8
-    ensures { result ≡ 0 → code ≡ 0 }
+    ensures { IsBehindRun code result }
 {
     if code == REFUSED { HINDERED } else { code }
 }
@@ -25,7 +26,8 @@ pub(crate) fn say_done<R, W: Write, F: Write, S>(
     answer: &[u8],
     devices: &mut Devices<R, W, F, S>,
 ) -> u8
-    ensures { store_of devices.new.outputs.keeper ≡ store_of devices.old.outputs.keeper }
+    ensures same { store_of devices.new.outputs.keeper ≡ store_of devices.old.outputs.keeper }
+    ensures statuses { (result ≡ 0) ⊎ (result ≡ 111) }
 {
     match write_answer(&mut devices.outputs.writer, answer) {
         Ok(()) => DONE,
@@ -40,7 +42,8 @@ pub(crate) fn tell_unjoined<R, W, F: Write, S>(
     border: usize,
     devices: &mut Devices<R, W, F, S>,
 ) -> u8
-    ensures { result ≢ 0 }
+    ensures refused { result ≢ 0 }
+    ensures same { store_of devices.new.outputs.keeper ≡ store_of devices.old.outputs.keeper }
 {
     match format!(in alloc; "NotJoined {border}") {
         Ok(text) => {

@@ -1,12 +1,14 @@
 //! An undo and a redo on a history: they go on from states that are passed, across borders.
-ghost use Rattle.std.specs.Prelude.{◌≡◌, ◌≢◌, ℕ, List, [], Some, IfErr, OnOk};
+ghost use Rattle.std.specs.Prelude.{◌≡◌, ◌≢◌, ℕ, List, [], Some, false, IfErr, IfOk, OnOk};
 ghost use Rattle.rc_streams.specs.Noting.{HasFailed};
 ghost use Rattle.rc_args.specs.OnceAsked.{Said, once_saying_of};
 ghost use Rattle.rc_script.specs.Says.{SaysStep};
 ghost use Rattle.rc_cli.specs.Storing.{store_of};
-ghost use Rattle.rc_historytext.specs.Travelling.{RunsInside, StepsTo, Travels, way_command};
+ghost use Rattle.rc_historytext.specs.Halting.{Halts};
+ghost use Rattle.rc_historytext.specs.Travelling.{RunsInside, Travels, way_command};
 ghost use Rattle.rc_historytext.specs.Updating.{IsCrossed};
-ghost use Rattle.rc_launch.specs.HeldHistory.{Leads, LeadsOn, history_held};
+ghost use Rattle.rc_launch.specs.Halted.{HasHalted, IsRefusedOn, StepEndsBy, StepsBy};
+ghost use Rattle.rc_launch.specs.HeldHistory.{KeepsIn, Leads, LeadsOn, history_held};
 ghost use Rattle.rc_launch.specs.Loading.{NamesFile};
 
 use crate::borders::{first_unjoined, goes_on_behind, is_border};
@@ -58,9 +60,15 @@ pub(crate) fn travel<'x, T: Threads + Wait + Sync, R: Read, W: Write, F: Write>(
 ) -> u8
     requires reader { HasFailed devices.old.reader → ⊥ }
     requires writer { HasFailed devices.old.outputs.writer → ⊥ }
-    ensures { result ≡ 0 → NamesFile execution.now.opened.now.loaded →
+    ensures done { result ≡ 0 → NamesFile execution.now.opened.now.loaded →
         Leads (store_of devices.old.outputs.keeper) (store_of devices.new.outputs.keeper)
         (Travels way.is_on) }
+    ensures halted { HasHalted result → NamesFile execution.now.opened.now.loaded →
+        Leads (store_of devices.old.outputs.keeper) (store_of devices.new.outputs.keeper)
+        (Halts way.is_on) }
+    ensures refused { result ≡ 1 → NamesFile execution.now.opened.now.loaded →
+        Leads (store_of devices.old.outputs.keeper) (store_of devices.new.outputs.keeper)
+        (IsRefusedOn way.is_on) }
 {
     let alloc = execution.rt.alloc();
     match first_unjoined(alloc, history_in(devices), way.is_on) {
@@ -76,14 +84,20 @@ fn steps<'x, T: Threads + Wait + Sync, R: Read, W: Write, F: Write>(
     way: Way,
     devices: &mut Devices<R, W, F, LiveStore<'x>>,
 ) -> u8
-    ensures { result ≡ 0 → NamesFile execution.now.opened.now.loaded →
+    ensures done { result ≡ 0 → NamesFile execution.now.opened.now.loaded →
         Leads (store_of devices.old.outputs.keeper) (store_of devices.new.outputs.keeper)
         (Travels way.is_on) }
+    ensures halted { HasHalted result → NamesFile execution.now.opened.now.loaded →
+        Leads (store_of devices.old.outputs.keeper) (store_of devices.new.outputs.keeper)
+        (Halts way.is_on) }
+    ensures refused { result ≡ 1 → NamesFile execution.now.opened.now.loaded →
+        Leads (store_of devices.old.outputs.keeper) (store_of devices.new.outputs.keeper)
+        (IsRefusedOn way.is_on) }
 {
     let mut has_run = false;
     for _ in 0..MAX_STEPS {
         match step(execution, way, devices) {
-            Ok(is_run) => has_run = has_run || is_run,
+            Ok(is_run) => has_run |= is_run,
             Err(code) => return if has_run { hindered(code) } else { code },
         }
         match goes_on_behind(execution.rt.alloc(), history_in(devices), way.is_on) {
@@ -103,10 +117,14 @@ fn step<'x, T: Threads + Wait + Sync, R: Read, W: Write, F: Write>(
     way: Way,
     devices: &mut Devices<R, W, F, LiveStore<'x>>,
 ) -> Result<bool, u8>
-    ensures ok { OnOk result (NamesFile execution.now.opened.now.loaded →
+    ensures ok { IfOk result (λ is_run. NamesFile execution.now.opened.now.loaded →
         Leads (store_of devices.old.outputs.keeper) (store_of devices.new.outputs.keeper)
-        (StepsTo way.is_on)) }
+        (StepsBy is_run way.is_on)) }
     ensures fault { IfErr result (λ code. code ≢ 0) }
+    ensures halted { IfErr result (λ code. HasHalted code →
+        NamesFile execution.now.opened.now.loaded →
+        Leads (store_of devices.old.outputs.keeper) (store_of devices.new.outputs.keeper)
+        (StepEndsBy code way.is_on)) }
 {
     if devices.reader.failed() || devices.outputs.writer.failed() {
         return Err(FAILED);
@@ -121,14 +139,15 @@ fn step<'x, T: Threads + Wait + Sync, R: Read, W: Write, F: Write>(
     }
 }
 
-// Crosses a border. Returns the status if that fails.
+// Crosses a border. Returns false, since no line is served, or the status if that fails.
 fn cross<R, W, F: Write>(
     is_on: bool,
     devices: &mut Devices<R, W, F, LiveStore<'_>>,
 ) -> Result<bool, u8>
     ensures ok { OnOk result (Leads (store_of devices.old.outputs.keeper)
         (store_of devices.new.outputs.keeper) (IsCrossed is_on)) }
-    ensures fault { IfErr result (λ code. code ≢ 0) }
+    ensures run { IfOk result (λ is_run. is_run ≡ false) }
+    ensures fault { IfErr result (λ code. code ≡ 111) }
 {
     match devices.outputs.keeper.store.cross(is_on) {
         Ok(()) => Ok(false),
@@ -144,20 +163,27 @@ fn run_inside<'x, T: Threads + Wait + Sync, R: Read, W: Write, F: Write>(
 ) -> u8
     requires reader { HasFailed devices.old.reader → ⊥ }
     requires writer { HasFailed devices.old.outputs.writer → ⊥ }
-    ensures { result ≡ 0 → NamesFile execution.now.opened.now.loaded →
+    ensures done { result ≡ 0 → NamesFile execution.now.opened.now.loaded →
         Leads (store_of devices.old.outputs.keeper) (store_of devices.new.outputs.keeper)
         (RunsInside way.is_on) }
+    ensures halted { HasHalted result → NamesFile execution.now.opened.now.loaded →
+        Leads (store_of devices.old.outputs.keeper) (store_of devices.new.outputs.keeper)
+        (StepEndsBy result way.is_on) }
 {
     let Ok(history) = Vec::from_slice(execution.rt.alloc(), history_in(devices)) else {
         return fail_on(b"Memory", devices);
     };
-    if let Err(fault) = devices.outputs.keeper.store.begin_way() {
-        drop(history);
-        return fail_on(word_of(fault), devices);
+    match devices.outputs.keeper.store.begin_way() {
+        Ok(()) => {
+            let code = run_on(execution, way, &history, devices);
+            drop(history);
+            code
+        }
+        Err(fault) => {
+            drop(history);
+            fail_on(word_of(fault), devices)
+        }
     }
-    let code = run_on(execution, way, &history, devices);
-    drop(history);
-    code
 }
 
 // Serves the line of an undo or a redo on the texts of the present generation of this history, in
@@ -170,8 +196,11 @@ fn run_on<'x, T: Threads + Wait + Sync, R: Read, W: Write, F: Write>(
 ) -> u8
     requires reader { HasFailed devices.old.reader → ⊥ }
     requires writer { HasFailed devices.old.outputs.writer → ⊥ }
-    ensures { result ≡ 0 → NamesFile execution.now.opened.now.loaded →
+    ensures done { result ≡ 0 → NamesFile execution.now.opened.now.loaded →
         LeadsOn history.now (store_of devices.new.outputs.keeper) (RunsInside way.is_on) }
+    ensures halted { HasHalted result → NamesFile execution.now.opened.now.loaded →
+        KeepsIn history.now (store_of devices.old.outputs.keeper) →
+        LeadsOn history.now (store_of devices.new.outputs.keeper) (StepEndsBy result way.is_on) }
 {
     let Ok(present) = present_of(execution.rt.alloc(), history) else {
         return fail_on(b"Memory", devices);
@@ -180,13 +209,11 @@ fn run_on<'x, T: Threads + Wait + Sync, R: Read, W: Write, F: Write>(
     let (service, live) = (Service::Line(&once), LiveFile::Text(present.session));
     let code = serve_on(execution, service, present.database, live, devices);
     drop(once);
-    if code != DONE {
-        return code;
+    if devices.outputs.keeper.store.was_led_from(history) {
+        code
+    } else {
+        fail_on(b"Strange", devices)
     }
-    if !devices.outputs.keeper.store.was_led_from(history) {
-        return fail_on(b"Strange", devices);
-    }
-    DONE
 }
 
 /// Returns the text of the history that is kept, or an empty text if there is none.
