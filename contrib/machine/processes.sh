@@ -1,10 +1,9 @@
 # shellcheck shell=sh
-# Functions that run undorc, wait for something, end processes, and compare the session with the
-# supervisor.
+# Functions that run undorc, wait for something, and end processes.
 
 # become_undorc COMMAND OPTION..: runs it with the files of this machine in place of this script,
 # so that signals reach it. orderly stands above this directory. Scripts and controllers get the same
-# environment, whoever calls. `trial` is another file of a session.
+# environment, whoever calls.
 become_undorc() {
     if ! UNDORC_PROGRAM=$(command -v "$UNDORC_PROGRAM"); then
         echo 'manage: UNDORC_PROGRAM names no program' >&2
@@ -12,8 +11,8 @@ become_undorc() {
     fi
     command=$1
     shift
-    set -- "PATH=$UNDORC_PATH" "UNDORC_LOCK=${trial:-$UNDORC_LIVE}.lock" "$here/../orderly" \
-        "$command" -b "$UNDORC_DB" -l "${trial:-$UNDORC_LIVE}" -W -v \
+    set -- "PATH=$UNDORC_PATH" "UNDORC_LOCK=$UNDORC_LIVE.lock" "$here/../orderly" \
+        "$command" -b "$UNDORC_DB" -l "$UNDORC_LIVE" -W -v \
         -c "$here/controller" -r "$here/oneshot" -T "$UNDORC_USUAL" -w "$UNDORC_WORKERS" "$@"
     for variable in $settings UNDORC_FORCE $UNDORC_PASS; do
         case $variable in *[!A-Za-z0-9_]* | [0-9]*) continue ;; esac
@@ -30,58 +29,38 @@ longruns_of() {
     "$UNDORC_PROGRAM" db -b "$1" list longruns
 }
 
-# where: prints where each service stands
-where() {
-    "$UNDORC_PROGRAM" status -b "$UNDORC_DB" -l "$UNDORC_LIVE"
-}
-
 # live_names: prints the names of all that is up
 live_names() {
-    live=$(where) && printf '%s\n' "$live" | sed -n 's/ up$//p'
-}
-
-# compare [NAME..]: prints a line for each longrun that the supervisor has in another state than the
-# session, but for those on their way; `live` says where a command was cut short, and then nothing is. The first
-# line of a name below is the session's word, the second one the supervisor's.
-compare() {
-    status_of_live=0
-    note=$("$here/manage" live 2>&1 > /dev/null) || status_of_live=$?
-    [ -z "$note" ] || echo "$note" >&2
-    [ "$status_of_live" -eq 0 ] || return "$status_of_live"
-    stand=$(where) && says=$("$here/says" "$@") || return
-    printf '%s\n' "$stand" "$says" | note=$note awk '
-        NF == 0 { next }
-        !(($1 "") in word) {
-            moves = $2 ~ /ing$/ && ENVIRON["note"] !~ /cut short/
-            word[$1 ""] = $2 == "up" ? "live" : moves ? "moving" : "not live"
-            next
-        }
-        word[$1 ""] == "moving" { next }
-        { state = substr($0, length($1) + 2) }
-        state != (word[$1 ""] == "live" ? "up wanted" : "down") { print $1 ": " word[$1 ""] ", but " state }'
+    stand=$("$UNDORC_PROGRAM" status) && printf '%s\n' "$stand" | sed -n 's/ up$//p'
 }
 
 # is_free: whether no program holds the session
 is_free() {
-    [ ! -e "$UNDORC_LIVE.lock" ] || ! command -v flock > /dev/null ||
-        flock -s -n "$UNDORC_LIVE.lock" true
+    [ ! -e "$UNDORC_LIVE.lock" ] || flock -s -n "$UNDORC_LIVE.lock" true
 }
+
+# is_left: whether another undorc has the session than the one that has started this script or controller, and
+# was killed. What begins late, as on a busy machine, ends at once.
+is_left() {
+    read -r owner _ < "${UNDORC_LOCK:-/nowhere}" && [ "$owner" != "$PPID" ]
+} 2> /dev/null
 
 # is_in NAMES NAME: whether NAME is one of the lines NAMES
 is_in() {
     printf '%s\n' "$1" | grep -qxF -e "$2"
 }
 
-# attend COMMAND..: runs a command; a signal is handled at once, and not after the command
+# attend COMMAND..: runs a command; a signal is handled at once, and not after the command. A shell that waits
+# writes `Terminated` where a signal has ended the command.
 attend() {
     "$@" &
     child=$!
-    wait "$child"
+    wait "$child" 2> /dev/null
 }
 
 # wait_for PID: waits until it has ended, whatever signals come, and leaves its status in `status`
 wait_for() {
-    while status=0 && wait "$1" || status=$?; kill -0 "$1" 2> /dev/null; do :; done
+    while status=0 && wait "$1" || status=$?; kill -0 "$1"; do :; done 2> /dev/null
 }
 
 # call_off: what a signal does to a command of `run`: it is called off, or not started
@@ -122,61 +101,30 @@ within() {
     until "$@"; do
         clock
         [ "$now" -lt "$latest" ] || return 1
-        sleep 0.1
+        sleep 0.1 &
+        wait "$!" 2> /dev/null || true
     done
 }
 
-# is_over PID: whether this process is no script or controller of UNDORC_NAME
-is_over() {
-    ! tr '\0' '\n' < "/proc/$1/environ" | grep -qxF "UNDORC_NAME=$UNDORC_NAME"
+# tenths MS: prints how many tenths of a second these are, or many if it is 0
+tenths() {
+    echo "$(($1 > 0 ? $1 / 100 : 1000000000))"
 }
 
-# is_left: whether another undorc has the lock of the one that has started this script or controller
-is_left() {
-    read -r owner _ < "${UNDORC_LOCK:-/nowhere}" && [ "$owner" != "$PPID" ]
+# is_state DIR STATE: whether state_of prints that
+is_state() {
+    [ "$(state_of "$1")" = "$2" ]
 }
-
-# claim: makes this process the script or controller of UNDORC_NAME. One that a killed command has left is
-# ended first; it may also begin late, and then ends itself: each one enters its number before it looks at
-# those of others and at the lock. Each has a process group of its own if it has a timeout.
-claim() {
-    claims=$UNDORC_PLACE/.claims/$UNDORC_NAME
-    echo $$ >> "$claims"
-    others=$(cat "$claims")
-    ! is_left || exit
-    for other in $others; do
-        if [ "$other" != $$ ] && ! is_over "$other"; then
-            kill -TERM "-$other" || kill -TERM "$other"
-            within 60 is_over "$other" || kill -KILL "-$other"
-        fi
-    done
-    echo $$ > "$claims"
-} 2> /dev/null
 
 # has_supervisor DIR
 has_supervisor() {
-    $asks "$1" > /dev/null 2>&1
-}
-
-# is_up DIR: whether it is up, and wanted up
-is_up() {
-    [ "$(state_of "$1")" = 'up wanted' ]
-}
-
-# is_down DIR: whether it is down, and not wanted up
-is_down() {
-    [ "$(state_of "$1")" = down ]
-}
-
-# is_gone DIR: whether it has no supervisor
-is_gone() {
-    ! has_supervisor "$1"
+    ! is_state "$1" unsupervised
 }
 
 # want_up DIR: makes the supervisor want it up. runsv reads no command during its pause after a crash.
 want_up() {
     rm -f "$1/down"
-    supervised && $raises "$1" && within 15 is_up "$1"
+    within 20 has_supervisor "$1" && $raises "$1" && within 15 is_state "$1" 'up wanted'
 }
 
 # want_down DIR: makes the supervisor want it down, also one that comes later. While a daemon crashes again
@@ -184,19 +132,30 @@ want_up() {
 # this waits until the supervisor says so.
 want_down() {
     : > "$1/down"
-    supervised && bring_down "$1" 2000
-    within 20 is_down "$1"
+    within 20 has_supervisor "$1" && bring_down "$1" 2000
+    within 20 is_state "$1" down
 }
 
-# force_down DIR MS: brings it down; sends KILL to it, its process group and its descendants if it is
-# not down after MS. Not by the supervisor: runsv takes a daemon that has just ended for one that is
+# seconds MS: prints them
+seconds() {
+    printf '%d.%03d' "$(($1 / 1000))" "$(($1 % 1000))"
+}
+
+# find_grace: sets `grace` to how long a transition may take in the second pass of a shutdown, in milliseconds:
+# UNDORC_GRACE, or half its timeout if that is less. Then undorc does not end this script before.
+find_grace() {
+    grace=$UNDORC_GRACE half=$((${UNDORC_LIMIT:-0} / 2))
+    if [ "$half" -gt 0 ] && [ "$half" -lt "$grace" ]; then grace=$half; fi
+    [ "$grace" -gt 0 ] || grace=1
+}
+
+# force_down DIR MS: brings it down; ends it, its process group and its descendants by KILL if it is not
+# down after MS. Not by the supervisor: runsv takes a daemon that has just ended for one that is
 # down then, and never runs its finish.
 force_down() {
     bring_down "$1" "$2" && return
     echo "down $name: killed" >&2
-    leader=$(pid_of "$1")
-    family=$(stop_family "$leader")
-    kill_family "$family ${family:+-$leader}"
+    kill_family "$(pid_of "$1")"
     bring_down "$1" 2000
 }
 
@@ -218,12 +177,31 @@ holds_nothing() {
     for process; do [ ! -e "/proc/$process/cwd" ] || return 1; done
 }
 
-# kill_family PIDS: sends KILL and waits, for a second at most, until the processes hold no
-# directory, so that a file system can be unmounted
+# kill_family PID..: sends KILL to them, their process groups and all their descendants, and waits, for a
+# second at most, until these hold no directory, so that a file system can be unmounted
 kill_family() {
+    family=$(stop_family "$@")
     # Process ids are separated by newlines.
     # shellcheck disable=SC2086
-    kill -KILL $1 2> /dev/null || true
+    for process in $family; do kill -KILL "-$process" || kill -KILL "$process"; done 2> /dev/null || true
     # shellcheck disable=SC2086
-    within 10 holds_nothing $1 || true
+    within 10 holds_nothing $family || true
+}
+
+# started_at PID: prints the start time of a process in clock ticks since boot
+started_at() {
+    sed 's/.*) //' "/proc/$1/stat" 2> /dev/null | cut -d ' ' -f 20
+}
+
+# boot_id: prints a word for this life of the first process, which differs after a reboot and after
+# a restart of the container. Without /proc all are alike.
+boot_id() {
+    echo "$(cat /proc/sys/kernel/random/boot_id 2> /dev/null)/$(started_at 1)"
+}
+
+# is_of_this_boot: whether the file of the session is
+is_of_this_boot() {
+    recorded=
+    [ ! -e "$UNDORC_LIVE.boot" ] || read -r recorded _ < "$UNDORC_LIVE.boot"
+    [ "$recorded" = "$(boot_id)" ]
 }

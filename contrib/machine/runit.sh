@@ -4,9 +4,8 @@
 # shellcheck source=processes.sh
 . "$here/processes.sh"
 
-# One of its tools, and the commands that tell whether a directory has a supervisor, want its daemon up, and send it
-# HUP.
-tool=runsv asks='sv status' raises='sv up' hangs_up='sv hup'
+# One of its tools, and the commands that want a daemon up and send it HUP
+tool=runsv raises='sv up' hangs_up='sv hup'
 
 # rescan: runsvdir looks for new service directories every five seconds, and can't be asked; fails if its
 # directory is not there
@@ -40,7 +39,7 @@ remove_supervisor() {
     copy=$(readlink "$UNDORC_SCAN/$1") || return 0
     rm -f "$UNDORC_SCAN/$1"
     sv exit "$copy" > /dev/null 2>&1
-    within 150 is_gone "$copy"
+    within 150 is_state "$copy" unsupervised
 }
 
 # has_ended DIR: whether the daemon that was started is gone; sets `end` to its status, which
@@ -50,11 +49,9 @@ has_ended() {
     if [ -e "$1/ended" ]; then read -r end < "$1/ended"; else [ "$(pid_of "$1")" != "$started" ]; fi
 }
 
-# is_ready DIR SECONDS: whether its check succeeds; waits a moment where it does not
+# is_ready DIR: whether its check succeeds, which may take as long as this script
 is_ready() {
-    attend timeout -k 1 "$2" ./check > /dev/null 2>&1 && return
-    attend sleep 0.1
-    return 1
+    attend timeout -k 1 "$(seconds "$bound")" ./check > /dev/null 2>&1
 }
 
 # has_started DIR: whether there is a process
@@ -76,27 +73,16 @@ bring_up() {
     fi
 }
 
-# fall DIR MS: waits until it is down, for MS at most, or for ever if that is 0. It is killed after
-# its timeout-kill, which runit does not know.
-fall() {
-    fatal=
-    [ ! -e "$1/timeout-kill" ] || read -r fatal < "$1/timeout-kill" || true
-    case $fatal in *[!0-9]*) fatal= ;; esac
-    clock
-    last=$((now + $2 / 10)) fatal=${fatal:+$((now + fatal / 10))}
-    until is_down "$1"; do
-        clock
-        [ "$2" -eq 0 ] || [ "$now" -lt "$last" ] || return 1
-        if [ "$now" -ge "${fatal:-$((now + 1))}" ]; then
-            kill -KILL "$(pid_of "$1")" 2> /dev/null
-            fatal=
-        fi
-        attend sleep 0.1
-    done
-}
-
-# bring_down DIR MS
+# bring_down DIR MS: it is killed after its timeout-kill, which runit does not know
 bring_down() {
     : > "$1/down"
-    sv down "$1" > /dev/null && fall "$1" "$2"
+    sv down "$1" > /dev/null || return
+    fatal=0
+    [ ! -e "$1/timeout-kill" ] || read -r fatal < "$1/timeout-kill" || true
+    case $fatal in '' | *[!0-9]*) fatal=0 ;; esac
+    if [ "$fatal" -gt 0 ] && { [ "$2" -eq 0 ] || [ "$fatal" -lt "$2" ]; }; then
+        within "$(tenths "$fatal")" is_state "$1" down && return
+        kill -KILL "$(pid_of "$1")" 2> /dev/null
+    fi
+    within "$(tenths "$2")" is_state "$1" down
 }

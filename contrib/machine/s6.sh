@@ -4,9 +4,8 @@
 # shellcheck source=processes.sh
 . "$here/processes.sh"
 
-# One of its tools, and the commands that tell whether a directory has a supervisor, want its daemon up, and send it
-# HUP.
-tool=s6-svscanctl asks=s6-svok raises='s6-svc -U' hangs_up='s6-svc -h'
+# One of its tools, and the commands that want a daemon up and send it HUP
+tool=s6-svscanctl raises='s6-svc -U' hangs_up='s6-svc -h'
 
 # rescan: makes the scanner look for new service directories; fails if there is none
 rescan() {
@@ -31,10 +30,12 @@ pid_of() {
 }
 
 # remove_supervisor NAME: ends the supervisor of its copy, to which it sets `copy`, and removes the link in the
-# scan directory. s6-svunlink returns a moment before the supervisor has ended.
+# scan directory. A scanner that was killed has left supervisors that the next one does not end.
 remove_supervisor() {
     copy=$(readlink "$UNDORC_SCAN/$1") || return 0
-    s6-svunlink -t 10000 "$UNDORC_SCAN" "$1" && within 100 is_gone "$copy"
+    s6-svunlink -t 10000 "$UNDORC_SCAN" "$1" || true
+    s6-svc -dx "$copy" 2> /dev/null || true
+    within 100 is_state "$copy" unsupervised
 }
 
 # is_ready DIR: whether the daemon becomes ready within 0.3 s

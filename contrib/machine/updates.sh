@@ -5,39 +5,17 @@
 #
 #   .sets/N/.db        in UNDORC_PLACE: the database of this set
 #   .sets/N/.renames   names of longruns before the update to this database, and after it
-#   .from              while an update, an undo or a redo of one is under way: the number of the present
-#                      set, that of its database in the session, the process, the set that it goes to,
-#                      and the file NEW; then each longrun that is renamed, with its next name
+#   .from              while an update, an undo or a redo is under way: the number of the present set, that
+#                      of its database in the session, and `new` and the file NEW of an update, or `other`
+#   .passing           a file that such a command has locked, and the undorc that it starts
 #
 # A longrun that gets another name keeps its supervisor and its copy, to which another link leads. A scanner
 # knows a directory by its inode, so while there are both links there is one supervisor.
 
-# stand: sets what the file of the session says: `present`, the number of its database from 0, `is_passed`,
-# whether an update has only passed where it stands, `is_cut`, whether there is nothing else since it has
-# passed, and `undoes` and `redoes`, whether an undo or a redo leaves the database
-stand() {
-    undoes='' redoes=''
-    [ ! -e "$UNDORC_LIVE" ] || set -- "$UNDORC_LIVE"
-    eval "$(LC_ALL=C awk '
-        rest > 0 {
-            rest -= length($0) + 1
-            if (part != "session" || number != present + 1) next
-            if ($1 == "now") at = states
-            states += $1 == "up" || $1 == "now"
-            next
-        }
-        $1 == "at" { present = $2; last = $4 - 1 }
-        $1 == "generation" && number++ == present { first = $2; end = $3 }
-        $1 == "database" || $1 == "session" { part = $1; rest = $2 }
-        END {
-            begun = at == 0 || at == 1 && first == "passed"
-            ended = at == states - 1 || at == states - 2 && end == "passed"
-            passed = at == 0 && first == "passed" || at == states - 1 && end == "passed"
-            print "present=" present + 0, "is_passed=" (passed ? "yes" : "")
-            print "is_cut=" (passed && first == "passed" && states <= 2 ? "yes" : "")
-            print "undoes=" (present > 0 && begun ? "yes" : "")
-            print "redoes=" (present < last && ended ? "yes" : "")
-        }' "${1:-/dev/null}")"
+# present: prints the number of the present database in the session, from 0
+present() {
+    number_of=$(sed -n -e '2s/^at \([0-9]*\) of .*/\1/p' -e 2q "$UNDORC_LIVE" 2> /dev/null) || true
+    echo "${number_of:-0}"
 }
 
 # for_pairs COMMAND..: runs it with each old name of `pairs` and the new one, until it fails
@@ -49,88 +27,81 @@ $pairs
 END
 }
 
-# check_pair NAMES OLD NAME: whether a longrun can go on by NAME where NAMES are all names; says why not
+# check_pair OLD NAME: whether a longrun can go on by NAME where `news` are all names; says why not
 check_pair() {
-    if is_in "$1" "$2"; then
-        echo "manage: $2 can't become $3, since the new database has another longrun $2" >&2
-    elif [ -d "$set/$3" ]; then
-        echo "manage: $2 can't become $3, which is another longrun of the old database" >&2
+    if is_in "$news" "$1"; then
+        echo "manage: $1 can't become $2, since the new database has another longrun $1" >&2
+    elif [ -d "$set/$2" ]; then
+        echo "manage: $1 can't become $2, which is another longrun of the old database" >&2
     else
         return 0
     fi
     return 1
 }
 
-# lend_pipe OLD NAME: a fifo gets its next name beside the old one
-lend_pipe() {
-    [ ! -p "$UNDORC_PLACE/.pipes/$1" ] || ln -f "$UNDORC_PLACE/.pipes/$1" "$UNDORC_PLACE/.pipes/$2"
-}
-
-# begin TO [NEW]: says that the session goes to the set TO
+# begin TO [NEW]: says where the session goes
 begin() {
-    printf '%s\n' "$number $present $$ $1 ${2:-}" "$pairs" > "$UNDORC_PLACE/.from" &&
-        for_pairs lend_pipe
+    echo "$number $was $*" > "$UNDORC_PLACE/.from"
 }
 
 # rename_entry OLD NAME: in the set that is made
 rename_entry() {
-    mv "$made/$1" "$made/$2" || return
-    [ ! -L "$made/$2/pipe-in" ] || ln -sfn "../.pipes/$2" "$made/$2/pipe-in"
+    mv "$made/$1" "$made/$2" && { [ ! -p "$made/.pipes/$1" ] || mv "$made/.pipes/$1" "$made/.pipes/$2"; }
 }
 
-# make_set NEW NAMES: makes the set of the database NEW, with the directories that the present one has
-# for NAMES
+# make_set: makes the set of the database `new`, with the directories that the present one has for `news`
 make_set() {
     made=$UNDORC_PLACE/.sets/new
-    rm -rf "$made" && cp -RPpl "$set/." "$made" && rm -f "$made/.db" "$made/.renames" &&
-        cp -p "$1" "$made/.db" && printf '%s\n' "$pairs" > "$made/.renames" &&
+    rm -rf "$made" && cp -RPpl "$set/." "$made" && rm -f "$made/.db" "$made/.renames" "$made/.prints" &&
+        cp -p "$new" "$made/.db" && printf '%s\n' "$pairs" > "$made/.renames" &&
         for_pairs rename_entry || return
-    for directory in "$made"/*; do
-        is_in "$2" "${directory##*/}" || rm -rf "$directory" || return
+    awk 'NR == FNR { becomes[$1] = $2; next }
+        $1 in becomes { $0 = becomes[$1] substr($0, length($1) + 1) }
+        { print }' "$made/.renames" "$set/.prints" > "$made/.prints"
+    for made_for in "$made"/* "$made/.pipes"/*; do
+        is_in "$news" "${made_for##*/}" || rm -rf "$made_for" || return
     done
 }
 
-# passes: whether the session has passed to the other database, where `number`, `was` and `to` are those of
-# .from
+# passes: whether the session has passed to another database since `number` and `was` were written
 passes() {
-    stand
-    [ "$present" -eq "$was" ] || return 0
+    [ "$(present)" -eq "$was" ] || return 0
     # A session that drops its oldest database keeps the number of the present one.
     [ "$to" = new ] || return
-    [ "$process.${status:-}" != "$$.0" ] || return 0
+    [ "${status:-}" != 0 ] || return 0
     if cmp -s "$UNDORC_PLACE/.sets/$number/.db" "$UNDORC_PLACE/.sets/new/.db"; then
-        [ -n "$is_cut" ]
+        # An update leaves two states at most.
+        "$UNDORC_PROGRAM" journal 2> /dev/null | grep -q '^at [0-9]* of [12]$'
     else
-        note=$("$UNDORC_PROGRAM" status -b "$UNDORC_PLACE/.sets/new/.db" -l "$UNDORC_LIVE" 2>&1) &&
+        note=$("$UNDORC_PROGRAM" status -b "$UNDORC_PLACE/.sets/new/.db" 2>&1) &&
             [ "${note#*is not the database of this session}" = "$note" ]
     fi
 }
 
-# install_set: makes the set that the session has passed to the present one. After an interruption the next
-# call goes on.
+# install_set: makes the set that the session has passed to the present one, and sets `pairs` to the names
+# before that and after it. After an interruption the next call goes on.
 install_set() {
-    sets=$UNDORC_PLACE/.sets
-    [ -d "$sets/$to" ] || to=$((number + 1))
-    cmp -s "$sets/$to/.db" "$UNDORC_DB" ||
-        { cp -p "$sets/$to/.db" "$UNDORC_DB.new" && mv -f "$UNDORC_DB.new" "$UNDORC_DB"; } || return
+    sets=$UNDORC_PLACE/.sets now=$(present)
     if [ "$to" = new ]; then
         to=$((number + 1))
-        for old in "$sets"/[0-9]*; do [ "${old##*/}" -lt "$to" ] || rm -rf "$old"; done
-        mv "$sets/new" "$sets/$to" || return
+        [ ! -d "$sets/new" ] || { rm -rf "${sets:?}/$to" && mv "$sets/new" "$sets/$to"; } || return
+    else
+        to=$((number + now - was))
     fi
-    for old in "$sets"/[0-9]*; do [ "${old##*/}" -ge $((to - present)) ] || rm -rf "$old"; done
-    ln -sfn ".sets/$to" "$UNDORC_PLACE/.set" && set=$UNDORC_PLACE/.set
+    [ -d "$sets/$to" ] || return 0
+    cmp -s "$sets/$to/.db" "$UNDORC_DB" ||
+        { cp -p "$sets/$to/.db" "$UNDORC_DB.new" && mv -f "$UNDORC_DB.new" "$UNDORC_DB"; } || return
+    for old in "$sets"/[0-9]*; do [ "${old##*/}" -ge $((to - now)) ] || rm -rf "$old"; done
+    if [ "$to" -lt "$number" ]; then
+        pairs=$(sed 's/\(.*\) \(.*\)/\2 \1/' "$sets/$number/.renames")
+    else
+        pairs=$(cat "$sets/$to/.renames")
+    fi 2> /dev/null || true
+    ln -sfn ".sets/$to" "$UNDORC_PLACE/.set"
 }
 
-# pass_name OLD NAME: a longrun gets its new name beside the old one, and its fifo has that alone
+# pass_name OLD NAME: a longrun gets its new name beside the old one
 pass_name() {
-    pipes=$UNDORC_PLACE/.pipes
-    if [ -p "$pipes/$1" ]; then
-        for end in "$UNDORC_PLACE"/*/pipe-*; do
-            if [ "$(readlink "$end")" = "../.pipes/$1" ]; then ln -sfn "../.pipes/$2" "$end" || return; fi
-        done
-        rm -f "$pipes/$1"
-    fi
     if [ -L "$UNDORC_SCAN/$1" ] && [ ! -e "$UNDORC_SCAN/$2" ]; then
         ln -sfn "$(readlink "$UNDORC_SCAN/$1")" "$UNDORC_SCAN/$2"
     fi
@@ -143,11 +114,6 @@ drop_name() {
     [ ! "$UNDORC_SCAN/$1" -ef "$UNDORC_SCAN/$2" ] || rm -f "$UNDORC_SCAN/$1"
 }
 
-# drop_pipe OLD NAME: the fifo keeps its old name alone
-drop_pipe() {
-    rm -f "$UNDORC_PLACE/.pipes/$2"
-}
-
 # supervise: leaves the supervisor the longruns of the set, and no others
 supervise() {
     # Names are separated by newlines.
@@ -157,33 +123,38 @@ supervise() {
     for_pairs drop_name
     for link in "$UNDORC_SCAN"/*; do
         name=${link##*/}
-        if [ ! -e "$link/.undorc-print" ] || [ -d "$set/$name" ]; then continue; fi
+        if [ ! -e "$link/.undorc-renewed" ] || [ -d "$set/$name" ]; then continue; fi
         case $(state_of "$link") in
             up*) echo "manage: $name: up, though the database lacks it" >&2 ;;
-            *) remove_copy "$name" || echo "manage: $name: its supervisor does not end" >&2 ;;
+            *)
+                { remove_supervisor "$name" && rm -rf "$copy"; } ||
+                    echo "manage: $name: its supervisor does not end" >&2
+                ;;
         esac
     done
 }
 
-# settle: what is left to do when an update, an undo or a redo is over, also one that was killed
+# lock_sets TENTHS: waits, for so many tenths of a second, until no update, undo or redo is under way, nor the
+# undorc that a killed one has started
+lock_sets() {
+    mkdir -p "$UNDORC_PLACE" && exec 8>> "$UNDORC_PLACE/.passing" && within "$1" flock -n 8
+}
+
+# settle: what is left to do when an update, an undo or a redo is over
 settle() {
     [ -e "$UNDORC_PLACE/.from" ] || return 0
-    { read -r number was process to next && pairs=$(cat); } < "$UNDORC_PLACE/.from"
-    if [ "$process" != $$ ]; then
-        ! grep -qs -e manage -e machine "/proc/$process/cmdline" || return 0
-        # The undorc that it has started may go on, for an hour at most.
-        within 36000 is_free || return 111
-    fi
+    read -r number was to next < "$UNDORC_PLACE/.from"
+    set=$UNDORC_PLACE/.set pairs=
     if passes; then
-        case $process.$to in
-            $$.*) ;;
-            *.new) echo "${0##*/}: an update to $next was cut short" >&2 || true ;;
-        esac
-        install_set && for_pairs pass_name || return 111
-    else
-        set=$UNDORC_PLACE/.set
-        rm -rf "$UNDORC_PLACE/.sets/new"
-        for_pairs drop_pipe
+        [ "$to.${status:-none}" != new.none ] || echo "${0##*/}: an update to $next was cut short" >&2 || true
+        install_set && for_pairs pass_name && supervise || return 111
+    elif [ "$to" = new ]; then
+        rm -rf "$UNDORC_PLACE/.sets/new" && supervise || return 111
     fi
-    supervise && rm -f "$UNDORC_PLACE/.from" || return 111
+    rm -f "$UNDORC_PLACE/.from"
+}
+
+# settle_left TENTHS: the same for one that was killed
+settle_left() {
+    [ ! -e "$UNDORC_PLACE/.from" ] || (lock_sets "$1" && settle)
 }

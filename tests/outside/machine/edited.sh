@@ -25,7 +25,7 @@ sleep 2
 is 'its finish keeps it down' 'once down' "$(script 'machine/says | grep once')"
 is 'it counts as failed' 'once failed
 status 3' "$(does 'machine/manage status once')"
-is 'that is said' 'once: live, but down' "$(told)"
+is 'that is said' 'once live, but down' "$(told)"
 is 'it counts as failed among all' 'once failed
 other down
 plain up
@@ -62,6 +62,16 @@ raised plain
 ok
 status 0' 'machine/init; machine/manage restart plain'
 is 'then nothing is named' 'plain up' "$(script 'machine/manage status plain 2>&1')"
+
+# An init that is killed leaves no file behind the next one.
+names='cd /run/undorc/services; echo $(ls -A . .set)'
+does "machine/init; $names" > "$room/before"
+for tenths in 0 1 2 3 4; do
+    script "echo '# again' >> services/other/run
+        machine/init & started=\$!; sleep 0.$tenths; kill -KILL \$started; wait \$started" > "$room/said" 2>&1
+done
+does "machine/init; $names" > "$room/after"
+is 'a killed init leaves nothing' '' "$(diff "$room/before" "$room/after")"
 
 # A longrun of the database without a source is named, and nothing waits ten seconds for it.
 begun=$(date +%s)

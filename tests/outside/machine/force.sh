@@ -41,11 +41,15 @@ status 0' 'machine/manage change good > /run/x
     kill -KILL $manager; wait $manager; machine/shutdown'
 is 'it enters what was moved, and what has come up since' 'undorc: Recovered' "$(script 'grep -x -e "shutdown: .*" -e "undorc: Recovered" /run/told | sort')"
 is 'nothing is mounted behind it' no "$(script 'mountpoint -q /mnt/x || echo no')"
-step 'a daemon that ignores TERM is started by hand' 'ok
-status 2' "UNDORC_SHUTDOWN=1000; export UNDORC_SHUTDOWN
+step 'a daemon that ignores TERM is started by hand' 'failed loner
+ok
+lowered loner
+ok
+status 2' "export UNDORC_SHUTDOWN=1000 UNDORC_USUAL=4000
     case $supervisor in s6) s6-svc -u /run/service/loner ;; runit) sv up /run/service/loner ;; esac
     machine/shutdown"
 is 'it is killed' 'down loner: killed
+shutdown: by force now: loner
 shutdown: loner is up, and is not live' "$(told | grep loner | grep -v '^down loner: ended by a signal' | sort)"
 step 'a shutdown where all goes well' 'lowered good mnt
 ok

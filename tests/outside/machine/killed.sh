@@ -63,7 +63,7 @@ while [ "$round" -lt 20 ]; do
 done
 is 'all is up again' 'status 0' "$(does 'machine/manage change default > /run/x')"
 is 'all agree with that' '' "$(differ)"
-# On a busy machine a script or a controller may begin later than the next command ends.
+# On a busy machine a script or a controller may begin when its command is killed already.
 script 'for file in controller oneshot; do
     sed -i "2i if rm /run/late; then until [ -e /run/go ]; do sleep 0.1; done; fi 2> /run/x" "machine/$file"
 done'
@@ -71,13 +71,13 @@ for one in chat time; do
     script "machine/manage change -d $one; rm -f /run/go; : > /run/late
         machine/manage change $one & manager=\$!
         timeout 20 sh -c 'while [ -e /run/late ]; do sleep 0.05; done'
-        kill -KILL \$manager; wait \$manager; machine/manage change; : > /run/go; sleep 4" > "$room/said" 2>&1
+        kill -KILL \$manager; wait \$manager; (sleep 1; : > /run/go) & machine/manage change; wait" > "$room/said" 2>&1
     is "what starts $one late starts nothing: all agree" '' "$(differ)"
     is "$one comes up again" 'status 0' "$(does 'machine/manage change default > /run/x')"
 done
 # The recovery from a killed command is killed, too.
-script 'machine/manage change -d chat; machine/manage change chat & manager=$!
-    timeout 20 sh -c "until pgrep -f \"machine/controlle[r] up chat\"; do sleep 0.05; done"
+script 'machine/manage change -d time; machine/manage change time & manager=$!
+    timeout 20 sh -c "until pgrep -f \": > /run/marks/tim[e]\"; do sleep 0.05; done"
     kill -KILL $manager; wait $manager; machine/manage change & manager=$!
     timeout 20 sh -c "until [ -e /run/undorc/live.trial ]; do sleep 0.02; done"
     kill -KILL $manager $(pgrep -x undorc); wait $manager; machine/manage change' > "$room/said" 2>&1

@@ -69,12 +69,10 @@ status 0' "machine/manage change p1 > /run/x
     machine/manage change -d p1 > /run/x; machine/manage change -d log > /run/x
     sleep 0.5; machine/manage change mid > /run/x; sleep 0.5
     grep -c \"^p1 \$((\$(cat /run/n0) + 1))\\\$\" /run/logged/current"
-does 'machine/manage change -d log
-    rm /run/undorc/services/.pipes/log
-    UNDORC_USUAL=3000 machine/manage change log' > "$room/said"
-is 'a longrun without its fifo fails' 'up log' \
-    "$(script 'sed -n "s/^\(up log\): .*/\1/p" /run/told | head -n 1')"
-step 'init makes it again' 'raised log mid
+step 'a fifo whose name is gone is still that of its longruns' 'raised log mid p1
 ok
-status 0' 'machine/init; machine/manage change mid | sed "s/^raised mid/raised log mid/"'
+all of it
+status 0' 'machine/manage change -d log > /run/x; rm /run/undorc/services/.set/.pipes/log
+    machine/manage change p1; sleep 1; machine/manage change -d p1 > /run/x; sleep 1
+    machine/manage change -d log > /run/x; sh lost p1 | grep -q whole && echo all of it'
 stop

@@ -90,7 +90,7 @@ ok
 status 0' 'machine/manage restart alpha'
 is 'their directories are the same' 'alpha free logger low p1 top undorc-pipes
 a log low p1 spare top' "$(directories)"
-is 'each fifo has one name' 'logger' "$(script 'ls /run/undorc/services/.pipes')"
+is 'each fifo has one name' 'logger' "$(script 'ls /run/undorc/services/.set/.pipes')"
 step 'drift finds nothing' 'status 0' machine/drift
 step 'the producer goes down' 'lowered p1
 ok

@@ -120,8 +120,9 @@ ok
 status 0' 'machine/manage undo'
 
 # A command that is killed while a daemon is on its way: given again, it finds that the daemon has come there.
-script 'machine/manage change -d slow > /run/x 2>&1 &
-    sleep 1; kill -KILL "$!"; wait "$!"; sleep 3' 2> "$room/said"
+script 'machine/manage change -d slow > /run/x 2>&1 & manager=$!
+    timeout 20 sh -c "until machine/says slow | grep -qx \"slow up\"; do sleep 0.05; done"
+    kill -KILL "$manager"; wait "$manager"; sleep 3' 2> "$room/said"
 step 'a command after one that was killed' 'ok
 status 0' 'machine/manage change -d slow'
 step 'the machine is whole again' 'raised slow

@@ -6,9 +6,6 @@ here=/etc/undorc/machine
 . "$here/settings"
 # shellcheck source=../../../contrib/machine/s6.sh
 . "$here/$UNDORC_SUPERVISOR.sh"
-# want_down calls it.
-# shellcheck disable=SC2317
-supervised() { :; }
 dir=$UNDORC_SCAN/flaky-1
 # wanted_up: wants the daemon up, and sets `supervisor` to the process of its supervisor
 wanted_up() {

@@ -71,7 +71,7 @@ wait "$session" 2> killed || true
 until_so is_state slow up
 # It looks twice at what is live.
 cut='undorc: a command was cut short: the next one enters what it has moved\n'
-wants 'slow: not live, but up wanted\n' "$cut$cut"
+wants 'slow not live, but up\n' "$cut$cut"
 echo 0 > status
 "$folder/drift" > out 2> err || echo $? > status
 judges 'drift behind a session that was killed' 1
@@ -115,14 +115,14 @@ drifts() {
 drifts 0 ''
 by_hand down web
 by_hand up deaf
-drifts 1 'deaf: not live, but up wanted\nweb: live, but down\n'
+drifts 1 'deaf not live, but up\nweb live, but down\n'
 by_hand up web
 by_hand down deaf
 drifts 0 ''
 # runsvdir ends what it finds no more; s6 is told to.
 if [ "$supervisor" = s6 ]; then
     mv scan/spare elsewhere
-    drifts 1 'spare: live, but unsupervised\n'
+    drifts 1 'spare live, but unknown\n'
     mv elsewhere scan/spare
 fi
 
