@@ -38,23 +38,19 @@ find_entry() {
 # NAME, the rights and owners of a file or the checksum of its content, and its path. Times are left out. One
 # `find` serves all, since a machine may have a thousand longruns. An entry may be a link to a directory.
 fingerprints() {
-    for source in $UNDORC_SOURCE; do
-        (
-            cd "$source" || exit
-            for name; do
-                shift
-                [ ! -d "$name" ] || set -- "$@" "./$name/."
-            done
-            [ $# -gt 0 ] || exit 0
-            find "$@" \( -name supervise -o -name event \) -prune -o \
-                -exec ls -dln {} + -type f -exec cksum {} + | LC_ALL=C awk '{
-                    path = substr($0, index($0, " ./") + 3)
-                    slash = index(path, "/")
-                    facts = /^[0-9]/ ? $1 " " $2 : $1 " " $3 " " $4
-                    print substr(path, 1, slash - 1), facts, substr(path, slash)
-                }'
-        )
-    done | LC_ALL=C sort
+    for name; do
+        shift
+        ! find_entry "$name" 2> /dev/null || set -- "$@" "$entry/."
+    done
+    [ $# -gt 0 ] || return 0
+    find "$@" \( -name supervise -o -name event \) -prune -o -exec ls -dln {} + -type f -exec cksum {} + |
+        LC_ALL=C awk '{
+            facts = /^[0-9]/ ? $1 " " $2 : $1 " " $3 " " $4
+            at = index($0 "/", "/./")
+            name = substr($0, 1, at - 1)
+            sub(".*/", "", name)
+            print name, facts, substr($0, at + 2)
+        }' | LC_ALL=C sort
 }
 
 # changed: reads fingerprints and prints the names whose fingerprint in the set differs, also names
@@ -121,8 +117,7 @@ join_pipes() {
 give_readiness() {
     : > "$1/wrapped-notification" || return
     [ ! -e "$1/check" ] || return 0
-    printf '#!/bin/sh\nread -r pid < supervise/pid && test -s "ready.$pid"\n' > "$1/check" &&
-        chmod 755 "$1/check" || return
+    write_script "$1/check" 'read -r pid < supervise/pid && test -s "ready.$pid"' || return
     # That of s6 asks s6-supervise.
     ! grep -q s6-notifyoncheck "$1/run" || ln -s "$here/carried" "$1/wrapped-path"
 }
@@ -133,8 +128,7 @@ carry_over() {
     [ ! -e "$1/notification-fd" ] || give_readiness "$1" || return
     if [ -e "$1/down-signal" ] && [ ! -e "$1/control/t" ]; then
         mkdir -p "$1/control" && read -r signal < "$1/down-signal" || return
-        printf '#!/bin/sh\nread -r pid < supervise/pid && kill -%s "$pid"\n' "${signal#SIG}" \
-            > "$1/control/t" && chmod 755 "$1/control/t" || return
+        write_script "$1/control/t" "read -r pid < supervise/pid && kill -${signal#SIG} \"\$pid\"" || return
     fi
     [ ! -x "$1/finish" ] || mv "$1/finish" "$1/finish.own" || return
     cp -p "$here/wrapped-finish" "$1/finish"
@@ -225,8 +219,7 @@ hold_pipes() {
     if [ -d "$UNDORC_SCAN/undorc-pipes" ]; then
         $hangs_up "$UNDORC_SCAN/undorc-pipes" || true
     elif [ -d "$set/.pipes" ]; then
-        mkdir -p "$holder" &&
-            printf "#!/bin/sh\nexec '%s/holder' '%s/.sets'\n" "$here" "$UNDORC_PLACE" > "$holder/run" &&
-            chmod 755 "$holder/run" && ln -sfn "$holder" "$UNDORC_SCAN/undorc-pipes"
+        mkdir -p "$holder" && write_script "$holder/run" "exec '$here/holder' '$UNDORC_PLACE/.sets'" &&
+            ln -sfn "$holder" "$UNDORC_SCAN/undorc-pipes"
     fi
 }

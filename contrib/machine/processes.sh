@@ -136,6 +136,11 @@ want_down() {
     within 20 is_state "$1" down
 }
 
+# write_script FILE TEXT: makes FILE a script of this text
+write_script() {
+    printf '#!/bin/sh\n%s\n' "$2" > "$1" && chmod 755 "$1"
+}
+
 # seconds MS: prints them
 seconds() {
     printf '%d.%03d' "$(($1 / 1000))" "$(($1 % 1000))"

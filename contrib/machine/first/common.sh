@@ -65,14 +65,11 @@ boot_beside() {
 # begin_end halt|poweroff|reboot: says how the machine ends; fails if another end has begun. It needs
 # neither room nor inodes: it renames what was reserved.
 begin_end() {
-    if mv /run/undorc/reserved /run/undorc/ending 2> /dev/null; then
-        [ "$1" = reboot ] || mv /run/undorc/ending/reboot "/run/undorc/ending/$1"
-    elif [ -d /run/undorc/ending ]; then
-        return 1
-    else
-        mkdir -p /run/undorc/ending && : > "/run/undorc/ending/$1"
-        return 0
+    if ! mv /run/undorc/reserved /run/undorc/ending 2> /dev/null; then
+        [ ! -d /run/undorc/ending ] || return 1
+        mkdir -p /run/undorc/ending && : > /run/undorc/ending/reboot
     fi
+    [ "$1" = reboot ] || mv /run/undorc/ending/reboot "/run/undorc/ending/$1" || true
 }
 
 # lower_all: brings all services down. What the shutdown prints is in /run/undorc/ending/log, or on the

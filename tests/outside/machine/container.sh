@@ -70,3 +70,30 @@ is 'a container that was killed and is started again' '0 up ended' \
 is 'it says what it moved' \
     'boot: /var/undorc/live is of an earlier boot; it is now /var/undorc/live.before' \
     "$(grep live.before "$keep/err")"
+
+# A scanner that is killed leaves its supervisors: a longrun that an update removes takes its own along.
+case $supervisor in
+    s6) scanner='s6-svsca[n] /run/service' supervises='^s6-supervise' ;;
+    runit) scanner='runsvdi[r] -P /run/service' supervises='^runsv' ;;
+esac
+longrun "$disk/upper/etc/undorc/services/gone" 'exec sleep 1000'
+bundle "$disk/upper/etc/undorc/services/default" d gone
+rm -f "$keep"/*
+begin sh -c 'mount -t proc proc /proc
+    cd /etc/undorc
+    undorc compile -o db services
+    exec machine/first/container > /var/keep/out 2> /var/keep/err'
+within 30 'grep -qs -e "^raised" /var/keep/err' || true
+is 'the scanner is killed, and another one comes' yes "$(script "was=\$(pgrep -of '$scanner')
+    kill -KILL \$was
+    timeout 10 sh -c 'until now=\$(pgrep -f \"$scanner\") && [ \"\$now\" != '\$was' ]; do sleep 0.1; done' && echo yes")"
+is 'an update removes a longrun' 'lowered gone
+ok
+ok
+status 0' "$(does 'rm -r services/gone; echo d > services/default/contents
+    undorc compile -o new services; machine/manage update -B new')"
+is 'its supervisor has ended' '1 0' "$(script "sleep 1
+    echo \$(pgrep -fc '$supervises d\$') \$(pgrep -fc '$supervises gone\$')")"
+kill -TERM "$first"
+end_within 30
+is 'the container ends' 0 "$status"

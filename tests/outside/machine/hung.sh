@@ -40,6 +40,7 @@ for kind in '' container; do
     start h sh -c "mountpoint -q /proc || mount -t proc proc /proc
         cd /etc/undorc; undorc compile -o db services; exec $begin"
     is "$what: the boot hangs" yes "$(hangs && echo yes)"
+    is "$what: drift finds nothing while it hangs" 'status 0' "$(does machine/drift)"
     begun=$(date +%s)
     ask_end halt
     if [ -n "$kind" ]; then exec 7< "/proc/$first/root$log"; else read_shutdown; fi

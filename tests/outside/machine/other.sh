@@ -29,7 +29,7 @@ ok
 status 0' "$kept; machine/boot"
 is 'it says what it moved and replaced' \
     'boot: /var/undorc/live is of an earlier boot; it is now /var/undorc/live.before
-boot: /var/undorc/services/d is of an earlier boot, and is replaced' "$(told)"
+boot: /var/undorc/services is of an earlier boot, and is replaced' "$(told)"
 step 'the longrun is up' 'e up wanted
 status 0' "$kept; machine/says"
 is 'the old daemon is not' 1 "$(script 'pgrep -c -f "^sleep 1000"')"

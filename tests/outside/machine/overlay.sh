@@ -78,11 +78,14 @@ is 'all of it comes up' 'live init-env mounts svc-deaf svc-main svc-web' \
     "$(script 'machine/manage live | head -n 1')"
 is 'a oneshot with the environment of the container' "$greeting" "$(cat "$keep/greeting")"
 is 'a longrun with it' "$greeting" "$(cat "$keep/web")"
+is 'lint knows that the up of a oneshot names its script' '' \
+    "$(script 'UNDORC_SOURCE="/etc/base /etc/s6-overlay/s6-rc.d" machine/manage lint 2> /run/x | grep init-env')"
 ends_by_term
 is 'TERM ends the container' 0 "$status"
 is "it ends within 10 s ($took s)" yes "$([ "$took" -gt $((10 + slow)) ] || echo yes)"
 is 'the daemon that hears TERM has ended by it' ended "$(cat "$keep/web")"
 is 'the one that does not was killed' 1 "$(grep -c '^down svc-deaf: killed$' "$keep/err")"
+is 'no shell tells of what it has ended' 0 "$(grep -c Terminated "$keep/err")"
 contain -n svc-halts
 script ': > /run/over'
 end_within 30

@@ -190,4 +190,6 @@ status 2' ': > services/deaf/dependencies
     undorc compile -o new services
     machine/manage update -B new > /run/x; ended=$?
     echo $(grep -cx ok /run/x) $(test -e new && echo there); (exit $ended)'
+is 'the time-out is told, and no shell tells of what it ended' '1 0' \
+    "$(script 'echo $(grep -c "down deaf: timed out" /run/told) $(grep -c Terminated /run/told)')"
 stop
