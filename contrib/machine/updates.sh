@@ -39,11 +39,6 @@ check_pair() {
     return 1
 }
 
-# begin TO [NEW]: says where the session goes
-begin() {
-    echo "$number $was $*" > "$UNDORC_PLACE/.from"
-}
-
 # rename_entry OLD NAME: in the set that is made
 rename_entry() {
     mv "$made/$1" "$made/$2" && { [ ! -p "$made/.pipes/$1" ] || mv "$made/.pipes/$1" "$made/.pipes/$2"; }
