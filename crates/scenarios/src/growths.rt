@@ -26,7 +26,6 @@ mod values;
 mod workers;
 
 use crate::growths::asked::{show_asked, show_command};
-pub use crate::growths::begun::completed;
 use crate::growths::calls::{by_events, made};
 use crate::growths::openings::show_opening;
 use crate::growths::own::show_own;

@@ -1,21 +1,21 @@
 //! Commands by their arguments: how these are parsed, and the results of `plan`, `db` and `replay`.
 
-use crate::commands::{argv_of, run};
 use crate::growths::devices::{Due, ended};
 use crate::growths::told::{came_of, go_on_to, show_came, show_same};
-use crate::samples::sample;
+use crate::samples::{sample, words_of};
 use rc_args::{
     Defaults, Invocation, Making, SessionCommand, WordsFault, invocation_of, renames_in,
     transitions_of,
 };
-use rc_cli::begins_update;
+use rc_cli::{begins_update, db_run, plan_run, replay_run};
 use rc_db::Db;
 use rc_dbtext::write_db;
 use rc_graph::Way;
 use rc_set::NoMem;
+use rc_streams::Noted;
 use rc_update::Conversion;
 use std::alloc::{AllocError, AllocGlobal, Global};
-use std::io::Print;
+use std::io::{Print, Write};
 use std::test::Fail;
 
 /// No defaults: the arguments name all that they need.
@@ -189,5 +189,32 @@ pub(crate) fn are_renames(alloc: Global) -> Result<bool, NoMem> {
             _ => Ok(false),
         },
         Err(_) => Err(AllocError),
+    }
+}
+
+/// Returns the program's name, followed by the words of a command line.
+fn argv_of(alloc: Global, line: &str) -> Result<Vec<String>, NoMem> {
+    let mut words = words_of(alloc, &["undorc"])?;
+    for word in line.split(' ') {
+        words.push(String::from_str(alloc, word)?)?;
+    }
+    Ok(words)
+}
+
+/// Runs a command by its words, and returns the status.
+fn run<W: Write, F: Write>(
+    alloc: Global,
+    words: &[String],
+    base: Option<&[u8]>,
+    input: &[u8],
+    writer: &mut W,
+    faults: &mut F,
+) -> u8 {
+    let mut reader = Noted::new(input);
+    let mut writer = Noted::new(writer);
+    match words.get(1).map(|word| word.as_str()) {
+        Some("plan") => plan_run(alloc, words, base, &mut reader, &mut writer, faults),
+        Some("db") => db_run(alloc, words, base, &mut reader, &mut writer, faults),
+        _ => replay_run(alloc, words, base, &mut reader, &mut writer, faults),
     }
 }

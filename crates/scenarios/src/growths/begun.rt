@@ -12,8 +12,7 @@ ghost use Rattle.rc_session.specs.Holding.{IsOfSession};
 use crate::growths::calls::{WRONG, by_events, planned};
 use crate::growths::told::go_on_to;
 use crate::samples::{ALL, DB, LOG, NET, ROOT, WEB, is_report, run_between, settles};
-use crate::steps::make;
-use rc_core::{Ended, Event, Outcome, Run, Standing};
+use rc_core::{Ended, Event, NotLegal, Outcome, Run, Standing};
 use rc_graph::Graph;
 use rc_recovery::recover;
 use rc_select::Plan;
@@ -124,7 +123,7 @@ pub(crate) fn all_moved(
     requires { session.old.begun ≡ false }
     ensures { session.new.begun ≡ false }
 {
-    match completed(rt, session, step, true) {
+    match completed(rt, session, step) {
         Ok(report) => {
             let is_right = moves_all(step, &report);
             drop(report);
@@ -143,13 +142,11 @@ fn moves_all(step: &Step, report: &Report) -> bool {
     report.trace.len() == 10 && is_report(report, opening, lowered, raised, &report.trace)
 }
 
-/// Begins the run of a step, runs it, and completes it. Prints the name of each further call if
-/// `names_calls` is set.
-pub fn completed(
+/// Begins the run of a step, runs it, and completes it. Prints the name of each further call.
+fn completed(
     rt: &(impl Print + AllocGlobal),
     session: &mut Session,
     step: &Step,
-    names_calls: bool,
 ) -> Result<Report, Refusal>
     requires { session.old.begun ≡ false }
     ensures { session.new.begun ≡ false }
@@ -158,17 +155,9 @@ pub fn completed(
         return Err(WRONG);
     }
     let begun = session.begin(rt.alloc(), step, 0)?;
-    match ended(
-        rt,
-        session.db().graph(),
-        begun.plan(),
-        begun.deadline(),
-        names_calls,
-    ) {
+    match ended(rt, session.db().graph(), begun.plan(), begun.deadline()) {
         Ok(run) => {
-            if names_calls {
-                go_on_to(rt, "complete");
-            }
+            go_on_to(rt, "complete");
             Ok(session.complete(begun, run))
         }
         Err(_) => {
@@ -184,23 +173,18 @@ fn ended(
     graph: &Graph,
     plan: &Plan,
     deadline: Option<u64>,
-    names_calls: bool,
 ) -> Result<Ended, NoMem>
     requires bound { length plan.now.opening ≡ length graph.now }
     requires opening { IsClosed graph.now (Has plan.now.opening) }
     requires target { IsClosed graph.now (TargetOf (course_of graph.now plan.now deadline)) }
     ensures { IfOk result (λ run. run.course ≡ course_of graph.now plan.now deadline) }
 {
-    if names_calls {
-        go_on_to(rt, "Run::open");
-    }
+    go_on_to(rt, "Run::open");
     let mut run = Run::open(rt.alloc(), graph, plan, deadline)?;
-    if names_calls {
-        go_on_to(
-            rt,
-            "Run::is_of, planned, standings, trace, take, done, settled and finish",
-        );
-    }
+    go_on_to(
+        rt,
+        "Run::is_of, planned, standings, trace, take, done, settled and finish",
+    );
     if is_new(&run, graph, plan, deadline) && settles(&mut run) {
         return Ok(run.finish());
     }
@@ -251,4 +235,12 @@ fn is_stopped_once_up(run: &mut Run) -> bool
 /// Returns true if a service is down.
 fn is_down(run: &Run, service: u16) -> bool {
     (service as usize) < run.standings().len() && run.standing(service) == Standing::Down
+}
+
+/// Makes events on a run.
+fn make(run: &mut Run, events: &[Event]) -> Result<(), NotLegal> {
+    for event in events {
+        run.step(*event)?;
+    }
+    Ok(())
 }

@@ -7,7 +7,7 @@ use crate::samples::MemoryFiles;
 use rc_db::Db;
 use rc_livetext::write_live;
 use rc_recovery::{
-    FilesFault, RecoverFault, Recovered, logged_events, recover_files, recover_text,
+    FilesFault, RecoverFault, Recovered, begin_log, logged_events, recover_files, recover_text,
 };
 use rc_session::Session;
 use rc_set::NoMem;
@@ -27,6 +27,9 @@ pub enum Recovering {
 /// What a run log has after the text from which the run began: a change, and that one service came
 /// up.
 const LOGGED: &[u8] = b"-t 5 -u change site\ntake 1 root\ndone 1 root ok\n";
+
+/// More steps than the files are asked for.
+const MOST_STEPS: usize = 1_000;
 
 /// The report that the recovery returns.
 const REPORT: &[u8] = b"raised root\nuntried db log net web\nok\n";
@@ -59,14 +62,21 @@ fn files_of(alloc: Global, session: &Session) -> Result<MemoryFiles, NoMem>
     requires { session.now.begun ≡ false }
 {
     let file = write_live(alloc, session)?;
-    let mut log = Vec::from_slice(alloc, &file)?;
-    log.extend_from_slice(LOGGED)?;
-    Ok(MemoryFiles {
+    let mut head = Vec::from_slice(alloc, &file)?;
+    head.extend_from_slice(LOGGED)?;
+    let mut files = MemoryFiles {
         alloc,
         file,
-        log,
-        steps: 2,
-    })
+        log: Vec::new(alloc),
+        steps: MOST_STEPS,
+    };
+    match begin_log(&mut files, &head) {
+        Ok(()) => Ok(files),
+        Err(_) => {
+            drop(files);
+            Err(AllocError)
+        }
+    }
 }
 
 fn show_on(

@@ -7,7 +7,6 @@ ghost use Rattle.rc_source.specs.Said.{meaning_of};
 
 use crate::growths::devices::{Due, ended};
 use crate::growths::told::{fault_of, go_on_to, show_came, show_same};
-use crate::trees::put_all;
 use rc_cli::compile_run;
 use rc_compile::{CompileFault, compile};
 use rc_db::Db;
@@ -208,4 +207,24 @@ fn is_of_two(compiled: Result<Db, CompileFault>) -> Result<bool, NoMem> {
     };
     drop(compiled);
     is_right
+}
+
+/// Puts files into a tree.
+fn put_all(tree: &mut MemoryTree, files: &str) -> Result<(), AllocError> {
+    for file in files.split(' ') {
+        if !file.is_empty() {
+            put(tree, file)?;
+        }
+    }
+    Ok(())
+}
+
+fn put(tree: &mut MemoryTree, file: &str) -> Result<(), AllocError> {
+    match file.split_once('/') {
+        Some((service, file)) => {
+            let (path, text) = file.split_once('=').unwrap_or((file, ""));
+            tree.put(service, path, text.as_bytes())
+        }
+        None => tree.folder(file),
+    }
 }

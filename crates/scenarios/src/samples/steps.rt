@@ -3,7 +3,7 @@
 ghost use Rattle.std.specs.Prelude.{◌≡◌, false, IfOk};
 
 use crate::samples::databases::{name_of, sample, words_of};
-use crate::samples::graphs::{DB, LOG, NET, ROOT, WEB};
+use crate::samples::sets::{DB, LOG, NET, ROOT, WEB};
 use rc_core::{Event, Outcome};
 use rc_select::{Mode, Request};
 use rc_session::{Session, Step};

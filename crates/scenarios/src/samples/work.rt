@@ -1,49 +1,17 @@
-//! Several workers who carry a change out, in a drawn order.
+//! Runs between sets of services, and a worker that carries one out.
 
 ghost use Rattle.std.specs.Prelude.{◌≡◌, true, length};
 ghost use Rattle.rc_model.specs.Run.{IsSettled};
 
-use crate::samples::draw::{Change, Draw};
-use crate::samples::graphs::set_of;
-use rc_core::{Finish, NotLegal, Outcome, Run, Took};
+use crate::samples::sets::set_of;
+use rc_core::{Outcome, Run, Took};
 use rc_graph::Graph;
 use rc_select::between;
 use rc_set::{NoMem, Set};
 use std::alloc::Global;
 
-/// Turns, in each of which one worker takes a service or ends one: far more
-/// than any change here asks for.
+/// Turns, in each of which one service is taken and ended: far more than any change here asks for.
 const TURNS: u32 = 10_000;
-
-/// Carries a change out by so many workers, from 1 to 64, and returns its end. Returns none if a
-/// call was refused that may not be.
-pub fn carry_out(
-    alloc: Global,
-    draw: &mut Draw,
-    change: &Change,
-    workers: u16,
-) -> Result<Option<Finish>, NoMem> {
-    let begun = run_between(
-        alloc,
-        &change.graph,
-        &change.up,
-        &change.to,
-        change.deadline,
-    )?;
-    match begun {
-        Some(run) => Ok(finish_of(draw, run, change, workers)),
-        None => Ok(None),
-    }
-}
-
-fn finish_of(draw: &mut Draw, mut run: Run, change: &Change, workers: u16) -> Option<Finish> {
-    if work(draw, &mut run, change, workers) && run.settled() {
-        Some(run.finish().take_apart())
-    } else {
-        drop(run);
-        None
-    }
-}
 
 /// Opens a run from some services to others. Returns none if some of these lack what they need.
 pub fn run_between(
@@ -85,49 +53,6 @@ fn open_between(
     match run {
         Ok(run) => Ok(Some(run)),
         Err(short) => Err(short),
-    }
-}
-
-/// Lets a drawn worker act in each turn: it ends what it holds, stops the run, or asks for a job.
-/// Returns false if a call was refused.
-fn work(draw: &mut Draw, run: &mut Run, change: &Change, workers: u16) -> bool {
-    let mut held: [Option<u16>; 64] = [None; 64];
-    let mut deadline = change.deadline;
-    for _ in 0..TURNS {
-        let place = draw.below(workers).min(63);
-        let worker = (1 + place) as u8;
-        if let Some(service) = held[place as usize] {
-            held[place as usize] = None;
-            if run
-                .done(worker, service, outcome_of(&change.fails, service))
-                .is_err()
-            {
-                return false;
-            }
-        } else if let Some(moment) = deadline
-            && draw.below(8) == 0
-        {
-            deadline = None;
-            if run.stop(worker, moment).is_err() {
-                return false;
-            }
-        } else {
-            match run.take(worker) {
-                Ok(Took::Job(job)) => held[place as usize] = Some(job.service()),
-                Ok(Took::Wait) => {}
-                Ok(Took::Settled) => return true,
-                Err(NotLegal) => return false,
-            }
-        }
-    }
-    true
-}
-
-fn outcome_of(fails: &[u16], service: u16) -> Outcome {
-    if fails.contains(&service) {
-        Outcome::Failed(1)
-    } else {
-        Outcome::Ok
     }
 }
 
