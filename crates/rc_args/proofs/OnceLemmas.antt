@@ -14,8 +14,8 @@ use Rattle.rc_args.specs.Words.{is_on, words_in}
 use Rattle.rc_select.specs.Ask.{asked_with, chosen_in, mode_of}
 use Rattle.rc_args.specs.Asked.{ask_with, is_on_with}
 use Rattle.rc_args.specs.Limits.{IsRunLimitIn}
-use Rattle.rc_args.specs.OnceAsked.{Adds, AsksWhat, OnceSaying, Said, WantsDryRedo, WantsDryUndo}
-use Rattle.rc_args.specs.OnceAsked.{once_command}
+use Rattle.rc_args.specs.OnceAsked.{Adds, AsksWhat, OnceSaying, Said, WantsDown, WantsDryRedo}
+use Rattle.rc_args.specs.OnceAsked.{WantsDryRestart, WantsDryUndo, once_command}
 use Rattle.rc_args.proofs.SessionWordsLemmas.{found_as, found_back}
 use Rattle.rc_args.proofs.InvocationLemmas.{apart}
 
@@ -53,41 +53,50 @@ limit_back m given limit is says = found_back (says_limit limit) m (codes "limit
 pub limit_none : (name flag : Text) (m : ArgMatches) (given : Option Text)
     → bytes_eq name (codes "add") ≡ false → bytes_eq name (codes "delete") ≡ false
     → bytes_eq name (codes "live") ≡ false → bytes_eq name (codes "bundles") ≡ false
-    → bytes_eq name (codes "journal") ≡ false
+    → bytes_eq name (codes "journal") ≡ false → bytes_eq name (codes "restart") ≡ false
     → given ≡ first_value (found_of m) (codes "limit")
     → ((limit : ℕ) → IsRunLimitIn given limit → ⊥)
     → (what : OnceSaying) → AsksWhat name flag (rows_of (found_of m)) what → ⊥
-limit_none name flag m given add delete live bundles journal is none (Said SaysNothing) asks =
+limit_none name flag m given add delete live bundles journal restart is none
+    (Said SaysNothing) asks =
     asks.1
-limit_none name flag m given add delete live bundles journal is none (Said SaysWrong) asks =
+limit_none name flag m given add delete live bundles journal restart is none (Said SaysWrong) asks =
     asks.1
-limit_none name flag m given add delete live bundles journal is none
+limit_none name flag m given add delete live bundles journal restart is none
     (Said (SaysStep (Change ask events))) asks =
     none ask.limit (limit_back m given ask.limit is asks.1.2.1)
-limit_none name flag m given add delete live bundles journal is none
+limit_none name flag m given add delete live bundles journal restart is none
     (Said (SaysStep (Undo limit events))) asks =
     none limit (limit_back m given limit is asks.1.2)
-limit_none name flag m given add delete live bundles journal is none
+limit_none name flag m given add delete live bundles journal restart is none
     (Said (SaysStep (Redo limit events))) asks =
     none limit (limit_back m given limit is asks.1.2)
-limit_none name flag m given add delete live bundles journal is none
+limit_none name flag m given add delete live bundles journal restart is none
     (Said (SaysStep (Add word contents force))) asks =
     apart name (codes "add") add asks.0
-limit_none name flag m given add delete live bundles journal is none
+limit_none name flag m given add delete live bundles journal restart is none
     (Said (SaysStep (Delete words force))) asks =
     apart name (codes "delete") delete asks.0
-limit_none name flag m given add delete live bundles journal is none (Said (SaysDry ask)) asks =
+limit_none name flag m given add delete live bundles journal restart is none
+    (Said (SaysDry ask)) asks =
     none ask.limit (limit_back m given ask.limit is asks.1.1.1)
-limit_none name flag m given add delete live bundles journal is none (Said SaysLive) asks =
+limit_none name flag m given add delete live bundles journal restart is none (Said SaysLive) asks =
     apart name (codes "live") live asks.0
-limit_none name flag m given add delete live bundles journal is none (Said SaysBundles) asks =
+limit_none name flag m given add delete live bundles journal restart is none
+    (Said SaysBundles) asks =
     apart name (codes "bundles") bundles asks.0
-limit_none name flag m given add delete live bundles journal is none (Said SaysJournal) asks =
+limit_none name flag m given add delete live bundles journal restart is none
+    (Said SaysJournal) asks =
     apart name (codes "journal") journal asks.0
-limit_none name flag m given add delete live bundles journal is none WantsDryUndo asks =
+limit_none name flag m given add delete live bundles journal restart is none WantsDryUndo asks =
     none asks.1.1.0 (limit_back m given asks.1.1.0 is asks.1.1.1)
-limit_none name flag m given add delete live bundles journal is none WantsDryRedo asks =
+limit_none name flag m given add delete live bundles journal restart is none WantsDryRedo asks =
     none asks.1.1.0 (limit_back m given asks.1.1.0 is asks.1.1.1)
+limit_none name flag m given add delete live bundles journal restart is none
+    (WantsDryRestart names) asks =
+    apart name (codes "restart") restart asks.0
+limit_none name flag m given add delete live bundles journal restart is none WantsDown asks =
+    apart name (codes "live") live asks.0
 
 -- what the words of `add` add is what its matches ask, and only that
 pub adds_asks : (given : Text) (rows : List Row) (words : List Text) (force : Bool)

@@ -18,7 +18,7 @@ use Rattle.rc_args.specs.Commands.{Reads, altering_program, asking_program, bare
 use Rattle.rc_args.specs.Commands.{change_command, changing_program, check_command}
 use Rattle.rc_args.specs.Commands.{compile_command, db_command}
 use Rattle.rc_args.specs.Commands.{flag, new_option, option, repeated, plan_command, program}
-use Rattle.rc_args.specs.Commands.{edit_command, journal_command, restart_command}
+use Rattle.rc_args.specs.Commands.{edit_command, journal_command, list_command, restart_command}
 use Rattle.rc_args.specs.Commands.{status_command, query_word, replay_command, session_command}
 use Rattle.rc_args.specs.Commands.{show_command, source_list, start_command, step_command}
 use Rattle.rc_args.specs.Commands.{cancel_command, stop_command, update_command, with_arg}
@@ -36,8 +36,8 @@ unfolding program altering_program changing_program asking_program bare with_arg
     option repeated word_list source_list query_word plan_command compile_command db_command
     replay_command session_command change_command start_command stop_command step_command
     cancel_command edit_command
-    restart_command status_command check_command show_command journal_command bare_program
-    update_command new_option
+    restart_command status_command check_command show_command list_command journal_command
+    bare_program update_command new_option
 program_is_plain = refl
 
 program_is_simple : is_simple_and_free program ≡ true
@@ -45,8 +45,8 @@ unfolding program altering_program changing_program asking_program bare with_arg
     option repeated word_list source_list query_word plan_command compile_command db_command
     replay_command session_command change_command start_command stop_command step_command
     cancel_command edit_command
-    restart_command status_command check_command show_command journal_command bare_program
-    update_command new_option
+    restart_command status_command check_command show_command list_command journal_command
+    bare_program update_command new_option
 program_is_simple = refl
 
 -- what the matches hold is what the words ask for

@@ -1,10 +1,10 @@
 -- What the words ask, of whichever command.
-use Rattle.std.specs.Prelude.{◌≡◌, ◌⊎◌, List, Option, None, Some, codes, option_map}
+use Rattle.std.specs.Prelude.{◌≡◌, ◌⊎◌, List, Option, None, Some, codes, false, option_map}
 use Rattle.std.specs.Borrow.{Bor}
 use Rattle.clap.specs.Words.{Row, Text, first_of}
 use Rattle.rc_model.specs.Plan.{Ask}
 use Rattle.rc_select.specs.Ask.{ask_of}
-use Rattle.rc_args.specs.Words.{rows_for}
+use Rattle.rc_args.specs.Words.{is_on, rows_for}
 use Rattle.rc_args.specs.Asked.{ask_in}
 use Rattle.rc_args.specs.CommandWords.{Meaning, meaning_of}
 use Rattle.rc_args.specs.CompileAsked.{AsksCompileIn, CompileAsk, compile_ask_of}
@@ -68,7 +68,8 @@ InvokesIn flag rows (OfReplay file) = file ≡ file_in rows
 InvokesIn flag rows (OfSession ask file) = AsksLinesIn rows ask × (file ≡ file_in rows)
 InvokesIn flag rows (OfOnce ask file) = AsksOnceIn flag rows ask × (file ≡ file_in rows)
 InvokesIn flag rows (OfUpdate ask file) = AsksUpdateIn rows ask × (file ≡ file_in rows)
-InvokesIn flag rows (OfRestart ask file) = AsksNamesIn rows ask × (file ≡ file_in rows)
+InvokesIn flag rows (OfRestart ask file) =
+    (is_on (codes "dry") rows ≡ false) × AsksNamesIn rows ask × (file ≡ file_in rows)
 InvokesIn flag rows (OfSeal ask file) = AsksSessionIn rows ask × (file ≡ file_in rows)
 InvokesIn flag rows (OfStatus ask file) = AsksNamesIn rows ask × (file ≡ file_in rows)
 InvokesIn flag rows (OfCheck ask file) = AsksNamesIn rows ask × (file ≡ file_in rows)

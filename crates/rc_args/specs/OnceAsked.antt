@@ -1,7 +1,7 @@
 -- What the words ask of a session of one line.
 use Rattle.std.specs.Prelude.{◌≡◌, ◌≢◌, ◌∷◌, ℕ, Bool, true, false, List, [], None, Some, All}
 use Rattle.std.specs.Prelude.{Contains}
-use Rattle.std.specs.Prelude.{codes}
+use Rattle.std.specs.Prelude.{codes, map, string_bytes}
 use Rattle.clap.specs.Words.{Row, Text, first_of}
 use Rattle.rc_model.specs.Names.{IsName}
 use Rattle.rc_model.specs.Plan.{Ask}
@@ -16,11 +16,14 @@ use Rattle.rc_args.specs.declared.once_words.Once.{Once}
 use Rattle.rc_args.specs.declared.once_words.Once.TheVariants as once
 use Rattle.rc_args.specs.declared.once_words.OnceRequest.{OnceRequest}
 
--- what one line is to do: what a session line says, or to show what an undo or a redo would move
+-- what one line is to do: what a session line says, or to show what is down, or what an undo, a
+-- redo or a restart would move
 pub data OnceSaying : Type 0 where
   Said : Saying → OnceSaying
   WantsDryUndo : OnceSaying
   WantsDryRedo : OnceSaying
+  WantsDryRestart : (names : List Text) → OnceSaying
+  WantsDown : OnceSaying
 
 -- what is asked of a session of one line: what that is to do, and what is asked of the session
 pub record OnceAsk : Type 0 where
@@ -32,6 +35,7 @@ abbrev pub IsShown : OnceSaying → Type 0
 IsShown (Said (SaysDry ask)) = Unit {0}
 IsShown WantsDryUndo = Unit {0}
 IsShown WantsDryRedo = Unit {0}
+IsShown (WantsDryRestart names) = Unit {0}
 IsShown other = ⊥
 
 -- it names no file, though it starts programs or asks what is up: what it starts would be known to
@@ -54,6 +58,8 @@ once_command (Said SaysBundles) = codes "bundles"
 once_command (Said SaysJournal) = codes "journal"
 once_command WantsDryUndo = codes "undo"
 once_command WantsDryRedo = codes "redo"
+once_command (WantsDryRestart names) = codes "restart"
+once_command WantsDown = codes "live"
 
 -- the matches of `change` ask this, with the limit that is given, where this flag counts as given
 abbrev pub AsksChangeIn : (flag : Text) → List Row → Ask → Type 0
@@ -71,7 +77,7 @@ Adds words force (Said (SaysStep (Add name contents forced))) =
 Adds words force other = ⊥
 
 -- the matches of its command ask this, where this flag counts as given: with the flag `dry` it is
--- shown and not done
+-- shown and not done, and with the flag `down` what is down is shown
 abbrev pub AsksWhatIn : (flag : Text) → List Row → OnceSaying → Type 0
 AsksWhatIn flag rows (Said SaysNothing) = ⊥
 AsksWhatIn flag rows (Said SaysWrong) = ⊥
@@ -87,13 +93,16 @@ AsksWhatIn flag rows (Said (SaysStep (Delete words force))) =
     (words_in rows ≡ words) × (force ≡ is_on (codes "force") rows)
 AsksWhatIn flag rows (Said (SaysDry ask)) =
     (is_on (codes "dry") rows ≡ true) × AsksChangeIn flag rows ask
-AsksWhatIn flag rows (Said SaysLive) = Unit {0}
+AsksWhatIn flag rows (Said SaysLive) = is_on (codes "down") rows ≡ false
 AsksWhatIn flag rows (Said SaysBundles) = Unit {0}
 AsksWhatIn flag rows (Said SaysJournal) = Unit {0}
 AsksWhatIn flag rows WantsDryUndo = (is_on (codes "dry") rows ≡ true)
     × ((limit : ℕ) × AsksStepIn rows limit)
 AsksWhatIn flag rows WantsDryRedo = (is_on (codes "dry") rows ≡ true)
     × ((limit : ℕ) × AsksStepIn rows limit)
+AsksWhatIn flag rows (WantsDryRestart names) =
+    (is_on (codes "dry") rows ≡ true) × (names ≡ words_in rows)
+AsksWhatIn flag rows WantsDown = is_on (codes "down") rows ≡ true
 
 -- the matches of the command of this name ask this to be done, where this flag counts as given
 abbrev pub AsksWhat : (name flag : Text) → List Row → OnceSaying → Type 0
@@ -123,6 +132,8 @@ abbrev pub once_saying_of : Once → OnceSaying
 once_saying_of (once.Line line) = Said (saying_of line)
 once_saying_of once.DryUndo = WantsDryUndo
 once_saying_of once.DryRedo = WantsDryRedo
+once_saying_of (once.DryRestart names) = WantsDryRestart (map string_bytes names.items)
+once_saying_of once.Down = WantsDown
 
 -- what a request of the program asks
 abbrev pub once_ask_of : OnceRequest → OnceAsk

@@ -1,5 +1,5 @@
 //! The command line, read once.
-ghost use Rattle.std.specs.Prelude.{◌≡◌, ◌≢◌, ◌↔◌, map, string_bytes, IfErr, IfOk, IsTrue};
+ghost use Rattle.std.specs.Prelude.{◌≡◌, ◌≢◌, ◌↔◌, codes, map, string_bytes, IfErr, IfOk, IsTrue};
 ghost use Rattle.std.specs.Prelude.{OnErr, OnOk};
 ghost use Rattle.clap.specs.Words.{found_of, rows_of, subcommand_rows_of};
 ghost use Rattle.rc_args.specs.Invocation.{InvocationAsk, Invokes, InvokesBy, InvokesEntered};
@@ -12,7 +12,7 @@ ghost use Rattle.rc_args.specs.Defaults.{defaults_ask_of};
 ghost use Rattle.rc_args.specs.declared.asked.WordsFault.TheVariants.{Memory};
 
 use crate::asked::{WordsFault, plan_in};
-use crate::cmdline::entered;
+use crate::cmdline::{entered, is_on};
 use crate::command_words::{Meaning, meaning_of};
 use crate::compile_words::{CompileRequest, compile_in};
 use crate::db_words::{DbRequest, db_in};
@@ -131,11 +131,32 @@ fn invocation_meant<'a>(
         "version" => return Ok(Invocation::Version),
         "session" => SessionCommand::Lines(lines_in(alloc, matches)?),
         "update" => SessionCommand::Update(update_in(alloc, matches)?),
-        "restart" => SessionCommand::Restart(named_in(alloc, matches)?),
+        "restart" => return restart_in(alloc, meaning, matches),
         "seal" => SessionCommand::Seal(session_in(alloc, matches)?),
         "status" => SessionCommand::Status(named_in(alloc, matches)?),
         "check" => SessionCommand::Check(named_in(alloc, matches)?),
         _ => SessionCommand::Line(once_in(alloc, meaning, matches)?),
+    };
+    Ok(Invocation::Session(command, base))
+}
+
+// Creates the invocation of a restart, or of one that is only to be shown, from its matches.
+fn restart_in<'a>(
+    alloc: Global,
+    meaning: Meaning<'_>,
+    matches: &ArgMatches<'a>,
+) -> Result<Invocation<'a>, WordsFault>
+    requires { meaning.command.now ≡ codes "restart" }
+    ensures asked { IfOk result (λ invocation. InvokesMeant (meaning_view meaning.entry)
+        (rows_of (found_of matches.now)) (invocation_ask_of invocation)) }
+    ensures wrong { IfErr result (λ fault. fault ≢ Memory → (ask : InvocationAsk) →
+        InvokesMeant (meaning_view meaning.entry) (rows_of (found_of matches.now)) ask → ⊥) }
+{
+    let base = text_in(matches, "base");
+    let command = if is_on(matches, "dry") {
+        SessionCommand::Line(once_in(alloc, meaning, matches)?)
+    } else {
+        SessionCommand::Restart(named_in(alloc, matches)?)
     };
     Ok(Invocation::Session(command, base))
 }

@@ -33,6 +33,10 @@ pub enum Once {
     DryUndo,
     /// To show what a redo would move.
     DryRedo,
+    /// To show what a restart of these names would move.
+    DryRestart(Vec<String>),
+    /// To show what is down.
+    Down,
 }
 
 /// The arguments of a session of one line.
@@ -74,8 +78,9 @@ impl Once {
         ensures { IsTrue result ↔ IsShown (once_saying_of self.now) }
     {
         match self {
-            Once::Line(SessionLine::Dry(_)) | Once::DryUndo | Once::DryRedo => true,
-            Once::Line(_) => false,
+            Once::Line(SessionLine::Dry(_)) | Once::DryUndo | Once::DryRedo | Once::DryRestart(_) =>
+                true,
+            Once::Line(_) | Once::Down => false,
         }
     }
 }
@@ -166,7 +171,8 @@ fn what_in(
         "redo" => redo_in(alloc, matches),
         "add" => add_in(alloc, matches),
         "delete" => delete_in(alloc, matches),
-        "live" => Ok(Once::Line(SessionLine::Live)),
+        "live" => Ok(live_in(matches)),
+        "restart" => dry_restart_in(alloc, matches),
         "bundles" => Ok(Once::Line(SessionLine::Bundles)),
         "journal" => Ok(Once::Line(SessionLine::Journal)),
         _ => Err(WordsFault::OtherCommand),
@@ -269,4 +275,28 @@ fn delete_in(alloc: Global, matches: &ArgMatches<'_>) -> Result<Once, WordsFault
     let names = words_in(alloc, matches)?;
     let command = Command::Delete(names, is_on(matches, "force"));
     Ok(Once::Line(SessionLine::Command(command)))
+}
+
+// Returns what `live` is to show, according to its matches.
+fn live_in(matches: &ArgMatches<'_>) -> Once
+    ensures { (flag : Text) →
+        AsksWhat (codes "live") flag (rows_of (found_of matches.now)) (once_saying_of result) }
+{
+    if is_on(matches, "down") {
+        return Once::Down;
+    }
+    Once::Line(SessionLine::Live)
+}
+
+// Returns that a restart is to be shown, if its matches have the flag for that.
+fn dry_restart_in(alloc: Global, matches: &ArgMatches<'_>) -> Result<Once, WordsFault>
+    ensures asked { IfOk result (λ once. (flag : Text) →
+        AsksWhat (codes "restart") flag (rows_of (found_of matches.now)) (once_saying_of once)) }
+    ensures wrong { IfErr result (λ fault. fault ≢ Memory → (flag : Text) (what : OnceSaying) →
+        AsksWhat (codes "restart") flag (rows_of (found_of matches.now)) what → ⊥) }
+{
+    if !is_on(matches, "dry") {
+        return Err(WordsFault::OtherCommand);
+    }
+    Ok(Once::DryRestart(words_in(alloc, matches)?))
 }

@@ -32,6 +32,8 @@ mod MovingLemmas
 mod BegunLemmas
 -- Where the undo of a restart leads.
 mod RestartLemmas
+-- What the first step of a restart leaves, and the plans of both.
+mod ShowingLemmas
 -- Where services stand, and how that is printed.
 mod StatusLemmas
 -- Whether longruns are where a session says.

@@ -7,7 +7,6 @@ use Rattle.rc_graph.specs.declared.Way.{Way}
 use Rattle.rc_model.specs.Database.{Database}
 use Rattle.rc_model.specs.Line.{Line}
 use Rattle.rc_model.specs.declared.Outcome.{Outcome}
-use Rattle.rc_model.specs.Session.{Command}
 use Rattle.rc_session.specs.Holding.{Holding}
 use Rattle.rc_script.specs.Says.{Saying, SaysNothing, SaysWrong, SaysStep, SaysDry, SaysLive}
 use Rattle.rc_script.specs.Says.{SaysBundles, SaysJournal}
@@ -17,14 +16,14 @@ use Rattle.rc_serve.specs.declared.fault.ServeFault.{ServeFault}
 use Rattle.rc_serve.specs.declared.fault.ServeFault.TheVariants.{Read, Write, TooLong, Memory}
 use Rattle.rc_serve.specs.declared.fault.ServeFault.TheVariants.{NoThread, Strange, Workers, Io}
 use Rattle.rc_serve.specs.declared.keeper.KeepFault.{KeepFault}
-use Rattle.rc_serve.specs.Ending.{ArrivesSaying, Ends, EndsIn, EndsWay, FailsShowing, IsDoneAs}
-use Rattle.rc_serve.specs.Ending.{StopsOnce, ending_of}
+use Rattle.rc_serve.specs.Ending.{ArrivesSaying, Ends, EndsIn, IsDoneAs, StopsOnce, ending_of}
 use Rattle.rc_serve.specs.Faults.{IsOfLine, IsServeFault, StandsAt}
 use Rattle.rc_serve.specs.Meeting.{IsDoneBy, Meets, WantsWork}
 use Rattle.rc_serve.specs.Keeping.{IsKeptUp, Keeping}
 use Rattle.rc_args.specs.OnceAsked.{OnceSaying, Said}
 use Rattle.rc_cli.specs.Once.{ArrivesOnce, EndsOnce, HoldsOnce, IsCommand, ServedOnce}
 use Rattle.rc_cli.specs.Once.{StopsLine, WantsWorkOnce}
+use Rattle.rc_cli.specs.Showing.{FailsToShow}
 use Rattle.rc_cli.specs.Storing.{HoldsText}
 use Rattle.rc_cli.proofs.SessionLemmas.{fault_wider}
 use Rattle.rc_cli.proofs.ServingLemmas.{kept_up, of_file}
@@ -152,14 +151,14 @@ module _ (workers : ℕ) (Answers : ℕ → Way → Outcome → Type 0) (Gives :
   served_line (Err fault) whole begun holds ended arrives up stops =
       inr (stops_line fault whole begun holds stops)
 
--- what is shown of an undo or a redo, or could not be
-module _ (what : OnceSaying) (command : Command) (path : Option Path) (held : Option (List ℕ))
-    (As : EndsIn) (written gained : Option (List ℕ)) (h : Holding)
-    (ends : (ending : Ending) (text : List ℕ) → EndsWay ending h.database h.line command text
+-- what is shown and no session line shows, or could not be
+module _ (what : OnceSaying) (Shows : Ending → List ℕ → Type 0) (path : Option Path)
+    (held : Option (List ℕ)) (As : EndsIn) (written gained : Option (List ℕ)) (h : Holding)
+    (ends : (ending : Ending) (text : List ℕ) → Shows ending text
     → EndsOnce As ending h.database h.line what text h.line)
     (arrives : ArrivesOnce h.database h.line what h.line)
     (kept : HoldsOnce path held held h.database what h.line) where
-  stops_shown : (fault : ServeFault) → FailsShowing fault h.database h.line command written gained
+  stops_shown : (fault : ServeFault) → FailsToShow fault Shows written gained
       → StopsLine fault (λ d line. HoldsOnce path held held d what line) As h.database h.line what
       written gained
   stops_shown fault (inl (is, none)) = inl (
@@ -179,19 +178,18 @@ module _ (what : OnceSaying) (command : Command) (path : Option Path) (held : Op
     inl kept,
   )
 
-  pub shown_way : (result : Result Ending ServeFault)
-      → IfOk result (λ ending. (text : List ℕ) × EndsWay ending h.database h.line command text
-      × Appends written gained text)
-      → IfErr result (λ fault. FailsShowing fault h.database h.line command written gained)
+  pub shown_so : (result : Result Ending ServeFault)
+      → IfOk result (λ ending. (text : List ℕ) × Shows ending text × Appends written gained text)
+      → IfErr result (λ fault. FailsToShow fault Shows written gained)
       → ServedOnce result path held held As what written gained h h
-  shown_way (Ok ending) (text, way, told) fails = record {
+  shown_so (Ok ending) (text, way, told) fails = record {
     text = text;
     ends = ends ending text way;
     told = told;
     arrives = λ _. arrives;
     kept = kept;
   }
-  shown_way (Err fault) shown fails = inr (stops_shown fault fails)
+  shown_so (Err fault) shown fails = inr (stops_shown fault fails)
 
 -- a fault stays one where more counts as a failure
 pub fault_with : {A : Type 0} (result : Result A ServeFault)

@@ -10,10 +10,12 @@ pub mod Finding
 pub mod Gating
 -- How the lines of a session are served.
 pub mod Serving
--- What one line comes to, as a command of its own, and where it has no answer.
-pub mod Once
 -- The lines of a command of several steps, such as an update or a restart.
 pub mod Steps
+-- What is shown of a session in one line, besides what a session line shows.
+pub mod Showing
+-- What one line comes to, as a command of its own, and where it has no answer.
+pub mod Once
 -- The two steps of a restart: both by one session.
 pub mod Restarting
 -- What a session is launched for, and what it comes to.

@@ -14,9 +14,11 @@ use Rattle.rc_serve.specs.Ending.{ArrivesSaying, Ends, EndsIn, EndsWay}
 use Rattle.rc_serve.specs.Faults.{IsOfLine, StandsAt}
 use Rattle.rc_serve.specs.Keeping.{Keeping}
 use Rattle.rc_serve.specs.Meeting.{WantsWork}
-use Rattle.rc_args.specs.OnceAsked.{OnceSaying, Said, WantsDryRedo, WantsDryUndo}
+use Rattle.rc_args.specs.OnceAsked.{OnceSaying, Said, WantsDown, WantsDryRedo, WantsDryRestart}
+use Rattle.rc_args.specs.OnceAsked.{WantsDryUndo}
 use Rattle.rc_cli.specs.Filing.{HoldsBy}
 use Rattle.rc_cli.specs.Serving.{IsOfFile, KeepsAt}
+use Rattle.rc_cli.specs.Showing.{EndsDown, EndsDryRestart}
 
 -- the answer to what one line is to do, how that ends, and the line of states from then on
 abbrev pub EndsOnce : EndsIn → Ending → Database → Line → OnceSaying → List ℕ → Line → Type 0
@@ -25,6 +27,9 @@ EndsOnce As ending d here WantsDryUndo text new =
     EndsWay ending d here (Undo 0 []) text × (new ≡ here)
 EndsOnce As ending d here WantsDryRedo text new =
     EndsWay ending d here (Redo 0 []) text × (new ≡ here)
+EndsOnce As ending d here (WantsDryRestart names) text new =
+    EndsDryRestart ending d here names text × (new ≡ here)
+EndsOnce As ending d here WantsDown text new = EndsDown ending d here text × (new ≡ here)
 
 -- where it moves services, what is live is the target of its plan
 abbrev pub ArrivesOnce : Database → Line → OnceSaying → Line → Type 0

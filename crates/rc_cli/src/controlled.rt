@@ -56,8 +56,8 @@ pub(crate) fn uncontrolled(
         return Ok(None);
     }
     match service {
-        Service::Lines | Service::Line(Once::DryUndo | Once::DryRedo) => Ok(None),
         Service::Line(Once::Line(line)) => moved_by(alloc, session, line),
+        Service::Lines | Service::Line(_) => Ok(None),
         Service::Restart(names) => moved_down(alloc, session, names),
     }
 }

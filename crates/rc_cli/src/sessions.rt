@@ -13,6 +13,7 @@ mod restarting;
 mod service;
 mod serving;
 mod session_fault;
+mod showing;
 mod steps;
 
 pub use crate::sessions::beginning::begin;

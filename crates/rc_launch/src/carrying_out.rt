@@ -110,6 +110,6 @@ fn led_line(once: &Once) -> Led<'_>
             is_on: true,
             limit: *limit,
         }),
-        Once::Line(_) => Led::Alone,
+        Once::Line(_) | Once::DryRestart(_) | Once::Down => Led::Alone,
     }
 }

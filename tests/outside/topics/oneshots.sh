@@ -39,6 +39,8 @@ shows() {
 # Two commands in a row, the first of which makes the file; and what is shown between them.
 expect 0 'raised net root\nok\n' '' '' change net -b base -x none -l live
 shows 0 'live net root\nok\n' live
+shows 0 'down db log web\nok\n' live -d
+shows 0 'down db log web\nok\n' list -d
 shows 0 'at 1 of 2\n0 +net +root\nok\n' journal
 shows 0 'raise db log web\nok\n' change -n site
 shows 1 'refused Unknown nobody\n' change -n site nobody
@@ -109,6 +111,7 @@ wrong add mine net -w 2
 # Essential services stay, and that is all that was planned.
 rm live
 expect 0 'raised db log net root web\nok\n' '' '' change site -b base -x none -l live
+shows 0 'down\nok\n' list -d
 alike 0 none '-da change' change -d -a
 
 # What is not tried since the limit is reached. The limit is looked at before a service is taken.
@@ -150,6 +153,7 @@ expect 2 'failed first\nblocked second\nok\n' '' '' change second -b broken.db -
 
 # With -x and -n a command needs no file, and begins with nothing up; without -b the database is that of the input.
 expect 0 'live\nok\n' 'undorc: missing does not exist: nothing is up\n' '' live -b base -l missing
+expect 0 'down db log net root web\nok\n' 'undorc: missing does not exist: nothing is up\n' "$sample" list -d -l missing
 expect 1 'refused NothingToUndo\n' '' '' undo -b base -x none
 expect 1 'refused NothingToUndo\n' '' '' undo -n -b base
 expect 0 'raised net root\nok\n' '' "$sample" change net -x none

@@ -27,7 +27,26 @@ goes() {
     expect 0 "$entries" '' '' journal -b base -l live
 }
 
+# previews STATUS OUTPUT WORDS..: a restart that is only shown, which leaves the file alone and makes no other
+previews() {
+    ends=$1 output=$2
+    shift 2
+    cp live before
+    printf '%s\n' live* > beside
+    expect "$ends" "$output" '' '' restart -n -b base -l live "$@"
+    printf '%s\n' live* > after
+    if cmp -s live before && cmp -s after beside; then
+        passed=$((passed + 1))
+    else
+        failed=$((failed + 1))
+        echo "FAILED: restart -n $*: a file was written"
+    fi
+}
+
 starts web
+previews 0 'lower web\nok\nraise web\nok\n' web
+previews 0 'lower db net web\nok\nraise db net web\nok\n' site net -x none
+previews 1 'refused Unknown nobody\n' web nobody
 goes 0 'lowered web\nok\nraised web\nok\n' 'at 1 of 2\n0 +db +log +net +root +web\nok\n' web -x none
 # With all that needs it, essential services too, and nothing else.
 starts web
@@ -40,6 +59,8 @@ starts net log
 leaves_down web
 goes 0 'lowered net\nok\nraised net\nok\n' 'at 1 of 2\n0 +log +net +root\nok\n' net web -x none
 starts net
+previews 0 'ok\nok\n' log web
+previews 0 'lower net root\nok\nraise net root\nok\n' root log
 leaves_down log web
 goes 0 'ok\n' 'at 1 of 2\n0 +net +root\nok\n' log web -x none
 echo 0 > status
@@ -99,6 +120,7 @@ expect 1 '' 'undorc: OtherDb\n' '' restart web -b other -l live -x none
 expect 111 '' 'undorc: Io\n' '' restart web -b missing -l live -x none
 exec 7>> live.lock
 flock 7
+expect 0 'lower web\nok\nraise web\nok\n' '' '' restart -n web -b base -l live
 expect 111 '' 'undorc: Busy\n' '' restart web -b base -l live -x none
 exec 7>&-
 cmp -s live was || echo 'the file differs' >> out
@@ -108,7 +130,8 @@ wrong restart
 wrong restart -b base -l live
 wrong restart web -b base
 wrong restart web -l live
-wrong restart web -b base -l live -n
+wrong restart -n -b base -l live
+wrong restart web -b base -l live -n -n
 wrong restart web -b base -l live -t 5
 
 # By real scripts, each once, and in the order of needs.

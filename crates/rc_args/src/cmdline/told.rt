@@ -250,6 +250,13 @@ const UPDATE: [ToldArg; 14] = [
 
 const SHOW: [ToldArg; 3] = [BASE, LIVE, WAIT];
 
+const LIST: [ToldArg; 4] = [
+    BASE,
+    LIVE,
+    WAIT,
+    Flag("down", 'd', "Print what is down, and not what is up"),
+];
+
 const JOURNAL: [ToldArg; 4] = [
     BASE,
     LIVE,
@@ -261,7 +268,7 @@ const JOURNAL: [ToldArg; 4] = [
     ),
 ];
 
-const RESTART: [ToldArg; 11] = [
+const RESTART: [ToldArg; 12] = [
     BASE,
     WORKERS,
     FAILING,
@@ -271,6 +278,7 @@ const RESTART: [ToldArg; 11] = [
     VERBOSE,
     LIVE,
     WAIT,
+    DRY,
     QUIET,
     Words(1, "NAME", "The name of a service or of a bundle"),
 ];
@@ -430,13 +438,13 @@ pub(crate) const SHOWING: [ToldCommand; 8] = [
     },
     ToldCommand {
         name: "live",
-        about: "Prints what is up",
-        args: &SHOW,
+        about: "Prints what is up, or what is down",
+        args: &LIST,
     },
     ToldCommand {
         name: "list",
-        about: "Prints what is up, as live",
-        args: &SHOW,
+        about: "Prints what is up, or what is down, as live",
+        args: &LIST,
     },
     ToldCommand {
         name: "bundles",

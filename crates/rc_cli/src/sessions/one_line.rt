@@ -13,6 +13,7 @@ ghost use Rattle.rc_cli.specs.Storing.{store_of};
 use crate::sessions::host::Host;
 use crate::sessions::keeping::Store;
 use crate::sessions::service::Outputs;
+use crate::sessions::showing::{show_down, show_restart};
 use rc_args::{Once, SessionRequest};
 use rc_board::{Executor, Gate};
 use rc_script::SessionLine;
@@ -47,6 +48,8 @@ pub(crate) fn serve_once<T: Threads + Wait + Sync, W: Write, G: Gate, S: Store, 
     match once {
         Once::DryUndo => show_undo(host.alloc, session, &mut outputs.writer),
         Once::DryRedo => show_redo(host.alloc, session, &mut outputs.writer),
+        Once::DryRestart(names) => { show_restart(host.alloc, session, names, &mut outputs.writer) }
+        Once::Down => show_down(host.alloc, session, &mut outputs.writer),
         Once::Line(said) => line_once(host, request, session, gate, said, outputs),
     }
 }

@@ -7,7 +7,8 @@ use Rattle.rc_args.proofs.once_words.change_in.Goals as goal
 
 pub returns-in_default-clause-wrong : goal.returns-in_default-clause-wrong
 returns-in_default-clause-wrong c =
-    λ _. limit_none (codes "change") c.args.flag.now c.args.matches.now _ refl refl refl refl refl
+    λ _. limit_none (codes "change") c.args.flag.now c.args.matches.now _ refl refl
+    refl refl refl refl
     c.get_str.ensures c.in_default.ensures.none
 
 pub returns-then-is_on-clause-asked : goal.returns-then-is_on-clause-asked

@@ -4,7 +4,7 @@ use Rattle.rc_args.proofs.once_words.redo_in.Goals as goal
 
 pub returns-in_default-clause-wrong : goal.returns-in_default-clause-wrong
 returns-in_default-clause-wrong c =
-    λ _ flag. limit_none (codes "redo") flag c.args.matches.now _ refl refl refl refl refl
+    λ _ flag. limit_none (codes "redo") flag c.args.matches.now _ refl refl refl refl refl refl
     c.get_str.ensures c.in_default.ensures.none
 
 pub returns-then-is_on-clause-asked : goal.returns-then-is_on-clause-asked

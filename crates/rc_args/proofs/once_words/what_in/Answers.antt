@@ -25,3 +25,13 @@ returns-in-delete-clause-asked c =
     IfOk-weaker c.delete_in.result _ _
     (λ once asks. let said = asks c.args.meaning.flag.now in (c.in-delete.is ∙ said.0, said.1))
     c.delete_in.ensures.asked
+
+pub returns-in-live-clause-asked : goal.returns-in-live-clause-asked
+returns-in-live-clause-asked c =
+    let said = c.live_in.ensures c.args.meaning.flag.now in (c.in-live.is ∙ said.0, said.1)
+
+pub returns-in-restart-clause-asked : goal.returns-in-restart-clause-asked
+returns-in-restart-clause-asked c =
+    IfOk-weaker c.dry_restart_in.result _ _
+    (λ once asks. let said = asks c.args.meaning.flag.now in (c.in-restart.is ∙ said.0, said.1))
+    c.dry_restart_in.ensures.asked
