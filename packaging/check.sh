@@ -62,7 +62,7 @@ printf '%s\n' 'raised disk net' ok > wanted
 gives 'change' 0 "$program" change net
 printf '%s\n' 'failed mail' ok > wanted
 gives 'a script that fails' 2 "$program" change -q mail
-printf '%s\n' 'disk up' 'mail down' 'net up' > wanted
+printf '%s\n' 'disk up' "mail failed $(sed -n 's|^mail ||p' live.failed)" 'net up' > wanted
 gives 'status' 0 "$program" status
 ls srv > listed
 echo net > wanted

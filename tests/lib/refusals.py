@@ -107,8 +107,10 @@ class Run:
         """Takes up what it left."""
         self.status = os.waitstatus_to_exitcode(status)
         self.out, told = map(text_in, self.streams)
-        # Why a program can't be started is said in a line of its own, before that of its transition.
-        self.err = "".join(line for line in told.splitlines(True) if " can't be started: " not in line)
+        # Why a program can't be started is said in a line of its own, before that of its transition; so is why a
+        # failure is not remembered.
+        self.err = "".join(line for line in told.splitlines(True)
+                           if " can't be started: " not in line and ".failed: " not in line)
         self.grown = [int(word) for word in taken(self.counts).split()]
         self.noted = taken(self.log) if self.options["scripts"] else ""
         self.live, self.left = "", []
@@ -130,7 +132,7 @@ class Run:
                     ask(self.options["program"], ["session", "-b", "base", "-l", path], "")
         self.live = read(self.kept)
         for path in places:
-            for ending in ("", ".lock", ".run", ".stop"):
+            for ending in ("", ".lock", ".run", ".stop", ".failed", ".failed.new"):
                 taken(path + ending)
 
     def is_last(self, well):

@@ -6,6 +6,7 @@ ghost use Rattle.rc_args.specs.Defaults.{session_by, defaults_ask_of};
 ghost use Rattle.rc_args.specs.declared.asked.WordsFault.TheVariants.{Memory};
 
 use crate::asked::WordsFault;
+use crate::cmdline::is_on;
 use crate::defaults::Defaults;
 use crate::once_words::are_one_line;
 use crate::session_request::SessionRequest;
@@ -21,6 +22,8 @@ pub struct NamedRequest<'a> {
     pub session: SessionRequest<'a>,
     /// The names of services and bundles.
     pub names: Vec<String>,
+    /// Whether nothing but failures is shown.
+    pub failed: bool,
 }
 
 impl<'a> NamedRequest<'a> {
@@ -31,10 +34,15 @@ impl<'a> NamedRequest<'a> {
           session = session_by (defaults_ask_of defaults.entry) (named_ask_of self.entry).session;
         } }
     {
-        let NamedRequest { session, names } = self;
+        let NamedRequest {
+            session,
+            names,
+            failed,
+        } = self;
         NamedRequest {
             session: session.with_defaults(defaults),
             names,
+            failed,
         }
     }
 }
@@ -54,5 +62,9 @@ pub(crate) fn named_in<'a>(
     }
     let session = session_in(alloc, matches)?;
     let names = words_in(alloc, matches)?;
-    Ok(NamedRequest { session, names })
+    Ok(NamedRequest {
+        session,
+        names,
+        failed: is_on(matches, "failed"),
+    })
 }

@@ -34,6 +34,8 @@ mod BegunLemmas
 mod RestartLemmas
 -- What the first step of a restart leaves, and the plans of both.
 mod ShowingLemmas
+-- The failures that are remembered.
+mod FailureLemmas
 -- Where services stand, and how that is printed.
 mod StatusLemmas
 -- Whether longruns are where a session says.

@@ -56,6 +56,8 @@ pub mod UpdateEnds
 pub mod Begun
 -- What `seal` makes of a session: a line of its current state alone.
 pub mod Sealing
+-- The failures that are remembered, and what is shown of them.
+pub mod Failures
 -- Where services stand, as `status` prints it.
 pub mod Status
 -- Whether longruns are where a session says, as `check` prints it.

@@ -20,6 +20,7 @@ use Rattle.rc_dbtext.specs.Base.{Spells}
 use Rattle.rc_streams.specs.Input.{AppendsFront}
 use Rattle.rc_serve.specs.declared.fault.ServeFault.TheVariants.{Memory, Write}
 use Rattle.rc_args.specs.NamedAsked.{NamedAsk}
+use Rattle.rc_cli.specs.Failures.{listed, shown_text}
 use Rattle.rc_cli.specs.Filing.{BeginsBy, file_named}
 use Rattle.rc_cli.specs.SessionFaults.{IsFileFault, IsTold, IsUnspelled}
 use Rattle.rc_cli.specs.declared.sessions.keeping.LiveFile.{LiveFile}
@@ -120,6 +121,26 @@ abbrev pub AnswersText : (base : List ℕ) → NamedAsk → LiveFile → (log : 
 AnswersText base ask live log ending text = (d : Database) × Spells (Some base) [] d []
     × AnswersOn d ask.session.bound (file_named ask.session.live live) log ask.names ending text
 
+-- how it ends where nothing but failures is shown
+abbrev pub ending_for : List ℕ → Shown
+ending_for [] = shown.Up
+ending_for (byte ∷ bytes) = shown.NotUp
+
+-- an answer as it is shown with the failures of a text: services that are down with their failures,
+-- or nothing but failures; and one that is refused as it is
+abbrev pub IsShownAs : (only : Bool) → (failed : List ℕ) → (ending : Shown) → (text : List ℕ)
+    → Shown → List ℕ → Type 0
+IsShownAs only failed shown.Refused text end seen = (end ≡ shown.Refused) × (seen ≡ text)
+IsShownAs only failed ending text end seen = (seen ≡ shown_text only (listed failed) text)
+    × (end ≡ (if only then ending_for seen else ending))
+
+-- the answer of `status` with the failures of a text
+abbrev pub AnswersShown : (base : List ℕ) → NamedAsk → LiveFile → (log failed : List ℕ) → Shown
+    → List ℕ → Type 0
+AnswersShown base ask live log failed ending text = (end : Shown) × (lines : List ℕ)
+    × AnswersText base ask live log end lines
+    × IsShownAs ask.failed failed end lines ending text
+
 -- why there is no answer: the text of the database or that of the session is refused, or can't be
 -- read; or out of memory
 abbrev pub IsUnanswered : (base : List ℕ) → NamedAsk → LiveFile → SessionFault → Type 0
@@ -128,12 +149,12 @@ IsUnanswered base ask live fault = IsUnspelled (Some base) [] fault
     × IsFileFault (file_named ask.session.live live) d fault) ⊎ (fault ≡ Failed Memory))
 
 -- and what is written then: nothing, or where the writer has failed a prefix of the answer
-abbrev pub FailsStatus : (base : List ℕ) → NamedAsk → LiveFile → (log : List ℕ) → SessionFault
-    → (writer : Type 0) → (written gained : Option (List ℕ)) → Type 0
-FailsStatus base ask live log fault writer written gained =
+abbrev pub FailsStatus : (base : List ℕ) → NamedAsk → LiveFile → (log failed : List ℕ)
+    → SessionFault → (writer : Type 0) → (written gained : Option (List ℕ)) → Type 0
+FailsStatus base ask live log failed fault writer written gained =
     (IsUnanswered base ask live fault × (gained ≡ written))
     ⊎ ((fault ≡ Failed Write) × writer × ((ending : Shown) × (text : List ℕ)
-    × AnswersText base ask live log ending text × AppendsFront written gained text))
+    × AnswersShown base ask live log failed ending text × AppendsFront written gained text))
 
 -- the status of how it ends
 abbrev pub status_of : Shown → ℕ
@@ -141,11 +162,13 @@ status_of shown.Up = 0
 status_of shown.NotUp = 3
 status_of shown.Refused = 1
 
--- the answer was written whole, with the status of how it ends; or a fault is told
+-- the answer was written whole, with the status of how it ends; or a fault is told. Of the failures
+-- that are remembered these were read
 abbrev pub TellsStatus : (base : List ℕ) → NamedAsk → LiveFile → (log : List ℕ) → (status : ℕ)
     → (writer : Type 0) → (written gained before after : Option (List ℕ)) → Type 0
 TellsStatus base ask live log status writer written gained before after =
-    ((ending : Shown) × (text : List ℕ) × AnswersText base ask live log ending text
+    (failed : List ℕ) × (((ending : Shown) × (text : List ℕ)
+    × AnswersShown base ask live log failed ending text
     × Appends written gained text × (status ≡ status_of ending) × (after ≡ before))
-    ⊎ ((fault : SessionFault) × FailsStatus base ask live log fault writer written gained
-    × IsTold fault status before after)
+    ⊎ ((fault : SessionFault) × FailsStatus base ask live log failed fault writer written gained
+    × IsTold fault status before after))

@@ -1,5 +1,5 @@
 //! Laws of the definitions. The functions do nothing when they run.
-ghost use Rattle.std.specs.Prelude.{◌≢◌, ◌↔◌, ℕ, List, []};
+ghost use Rattle.std.specs.Prelude.{◌≡◌, ◌≢◌, ◌↔◌, ℕ, List, []};
 ghost use Rattle.rc_model.specs.Names.{Has, Holds};
 ghost use Rattle.rc_model.specs.Graph.{UpFrom};
 ghost use Rattle.rc_model.specs.Database.{Database, IsDatabase};
@@ -11,6 +11,7 @@ ghost use Rattle.rc_model.specs.Session.{Change, Does, IsLineOf, Reported, Undo}
 ghost use Rattle.rc_model.specs.declared.Event.{Event};
 ghost use Rattle.rc_update.specs.Carrying.{Carried, StaysUp};
 ghost use Rattle.rc_update.specs.Conversions.{Conversion};
+ghost use Rattle.rc_cli.specs.Failures.{AreOwn, End, Failure, failure_for, last_known, remembered};
 ghost use Rattle.rc_cli.specs.Steps.{step_ask};
 ghost use Rattle.rc_cli.specs.Updating.{IsUpdate, Parts};
 
@@ -55,4 +56,12 @@ pub fn restarts_come_back()
         IsLineOf d old → Does d old (Change ask events) told middle →
         middle.current.live ≢ old.current.live →
         (s : ℕ) → TargetOfCommand d middle (Undo limit []) s ↔ Has old.current.live s }
+{}
+
+/// What is remembered of a service after ends is what the last end of it says, or what was
+/// remembered before if no end is of it.
+pub fn last_ends_are_remembered()
+    ensures { (before : List Failure) (ends : List End) (name : List ℕ) → AreOwn ends →
+        failure_for (remembered before ends) name
+        ≡ last_known name ends (failure_for before name) }
 {}

@@ -6,18 +6,22 @@
 mod begun;
 mod checking;
 mod controlled;
+mod failed_file;
+mod failures;
 mod fault;
 pub mod laws;
 mod moving;
 pub mod queries;
 mod sealing;
 pub mod sessions;
+mod shown_failures;
 mod status;
 mod update;
 mod updating;
 
 pub use crate::begun::{begins_restart, begins_update, logs_way};
 pub use crate::checking::{check_as_asked, controller_of};
+pub use crate::failed_file::remember;
 pub use crate::queries::{db_run, plan_run, replay_run};
 pub use crate::sealing::seal_as_asked;
 pub use crate::sessions::{LiveFile, Service, Store, TextKeeper, launch};

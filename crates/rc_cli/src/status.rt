@@ -10,12 +10,15 @@ ghost use Rattle.rc_streams.specs.Noting.{HasFailed, inner_of};
 ghost use Rattle.rc_args.specs.NamedAsked.{named_ask_of};
 ghost use Rattle.rc_args.specs.SessionAsked.{session_ask_of};
 ghost use Rattle.rc_cli.specs.Filing.{file_named};
-ghost use Rattle.rc_cli.specs.Status.{AnswersAt, AnswersStatus, AnswersText, AreOfFile, IsTextOf};
-ghost use Rattle.rc_cli.specs.Status.{IsUnanswered, IsUpAs};
-ghost use Rattle.rc_cli.specs.Status.{TellsStatus, fails, line_of, lines_to, standing_after};
-ghost use Rattle.rc_cli.specs.Status.{standing_word, status_of};
+ghost use Rattle.rc_cli.specs.Status.{AnswersAt, AnswersShown, AnswersStatus, AnswersText};
+ghost use Rattle.rc_cli.specs.Status.{AreOfFile, IsShownAs, IsTextOf, IsUnanswered, IsUpAs};
+ghost use Rattle.rc_cli.specs.Status.{TellsStatus, ending_for, fails, line_of, lines_to};
+ghost use Rattle.rc_cli.specs.Status.{standing_after, standing_word, status_of};
 
+use crate::failed_file::failed_text;
+use crate::failures::listed;
 use crate::sessions::{Devices, LiveFile, SessionFault, begin, spelled, tell_ended};
+use crate::shown_failures::shown_text;
 use rc_args::{NamedRequest, SessionRequest};
 use rc_core::{Event, Outcome, Standing};
 use rc_db::{Db, QueryFault};
@@ -51,14 +54,15 @@ struct StatusAnswer {
     text: Vec<u8>,
 }
 
-/// Prints where services stand, and returns the exit status: 0; 3 if a named service is not up; 1
-/// if a name is unknown or a text is refused; 111 for a failure.
+/// Prints where services stand, and returns the exit status: 0; 3 if a named service is not up, or
+/// if only failures are wanted and there is one; 1 if a name is unknown or a text is refused; 111
+/// for a failure. A service that is down is shown with its failure, if it has one.
 ///
 /// `live` is what stood in the file of the session, and `log` is what stood in its run log. The log
 /// was read first, so the log of a command that has ended since belongs to another text, and says
 /// nothing.
 pub fn status_as_asked<R, W: Write, F: Write, S>(
-    alloc: Global,
+    rt: &HostRuntime,
     request: &NamedRequest<'_>,
     base: &[u8],
     live: LiveFile<'_>,
@@ -74,7 +78,11 @@ pub fn status_as_asked<R, W: Write, F: Write, S>(
     ensures unread { devices.new.reader ≡ devices.old.reader }
     ensures unkept { devices.new.outputs.keeper ≡ devices.old.outputs.keeper }
 {
-    let answer = match text_answer(alloc, request, base, live, log) {
+    let alloc = rt.alloc();
+    let failed = failed_text(rt, request.session.live);
+    let shown = shown_answer(alloc, request, base, live, log, &failed);
+    drop(failed);
+    let answer = match shown {
         Ok(answer) => answer,
         Err(fault) => return tell_ended(alloc, &mut devices.faults, Err(fault)),
     };
@@ -98,6 +106,66 @@ fn status_of(ending: Shown) -> u8
         Shown::Up => DONE,
         Shown::NotUp => NOT_UP,
         Shown::Refused => REFUSED,
+    }
+}
+
+// Returns the answer by the text of the database and that of the failures.
+fn shown_answer<'a>(
+    alloc: Global,
+    request: &NamedRequest<'_>,
+    base: &[u8],
+    live: LiveFile<'_>,
+    log: &[u8],
+    failed: &[u8],
+) -> Result<StatusAnswer, SessionFault<'a>>
+    ensures answer { IfOk result (λ answer. AnswersShown base.now (named_ask_of request.now)
+        live.entry log.now failed.now answer.ending answer.text.items) }
+    ensures none { IfErr result (IsUnanswered base.now (named_ask_of request.now) live.entry) }
+{
+    let answer = match text_answer(alloc, request, base, live, log) {
+        Ok(answer) => answer,
+        Err(fault) => return Err(fault),
+    };
+    let shown = with_failures(alloc, &answer, failed, request.failed);
+    drop(answer);
+    match shown {
+        Ok(answer) => Ok(answer),
+        Err(_) => Err(SessionFault::Failed(ServeFault::Memory)),
+    }
+}
+
+// Returns an answer as it is shown with the failures of a text. If `only`, nothing but failures is
+// shown.
+fn with_failures(
+    alloc: Global,
+    answer: &StatusAnswer,
+    failed: &[u8],
+    only: bool,
+) -> Result<StatusAnswer, NoMem>
+    ensures { IfOk result (λ shown. IsShownAs only failed.now answer.now.ending
+        answer.now.text.items shown.ending shown.text.items) }
+{
+    let (ending, text) = (answer.ending, &answer.text);
+    if matches!(ending, Shown::Refused) {
+        let text = Vec::from_slice(alloc, text)?;
+        return Ok(StatusAnswer { ending, text });
+    }
+    let failures = listed(alloc, failed)?;
+    let shown = shown_text(alloc, text, &failures, only);
+    drop(failures);
+    let text = shown?;
+    let ending = if only { ending_for(&text) } else { ending };
+    Ok(StatusAnswer { ending, text })
+}
+
+// Returns the ending of an answer that shows nothing but failures.
+fn ending_for(text: &[u8]) -> Shown
+    ensures { result ≡ ending_for text.now }
+{
+    if text.is_empty() {
+        Shown::Up
+    } else {
+        Shown::NotUp
     }
 }
 

@@ -29,7 +29,8 @@ ghost use Rattle.rc_cli.specs.UpdateEnds.{AreGateless, IsNoneAhead, UpdatesOn};
 use crate::controlled::uncontrolled_step;
 use crate::moving::update_of;
 use crate::sessions::{
-    Host, LiveFile, Outputs, SessionFault, Store, begin, gate_for, line_once, step_line,
+    Host, LiveFile, Outputs, Remembering, SessionFault, Store, begin, gate_for, line_once,
+    step_line,
 };
 use log::Log;
 use rc_args::{Making, SessionRequest, Transition, UpdateRequest, Verbosity};
@@ -135,7 +136,10 @@ fn gates_of<'h, 'a, T, L: Log + Sync>(
     old: &Db,
     new: &Db,
     asked: &SessionRequest<'a>,
-) -> Result<Gates<Telling<'h, L, SessionGate<'h, HostRuntime, L>>>, SessionFault<'a>>
+) -> Result<
+    Gates<Telling<'h, L, Remembering<'h, SessionGate<'h, HostRuntime, L>>>>,
+    SessionFault<'a>,
+>
     ensures made { IfOk result (λ gates.
         IsGateFor old.now (making_on Lower (making_ask_of asked.now.making)) gates.lowers
         × IsGateFor new.now (making_on Raise (making_ask_of asked.now.making)) gates.raises) }
@@ -161,7 +165,7 @@ fn gate_on<'h, 'a, T, L: Log + Sync>(
     making: &Making<'a>,
     verbosity: Verbosity,
     way: Way,
-) -> Result<Telling<'h, L, SessionGate<'h, HostRuntime, L>>, SessionFault<'a>>
+) -> Result<Telling<'h, L, Remembering<'h, SessionGate<'h, HostRuntime, L>>>, SessionFault<'a>>
     ensures made { IfOk result (λ gate.
         IsGateFor db.now (making_on way (making_ask_of making.now)) gate) }
     ensures fault { IfErr result (IsGateless db.now (making_on way (making_ask_of making.now))) }

@@ -16,7 +16,7 @@ use crate::recovered::{Came, Recovery};
 use crate::recovering::{Unrecovered, recover_by};
 use crate::texts::{LiveText, LogText, ReadFiles};
 use rc_args::SessionCommand;
-use rc_cli::{begins_restart, begins_update};
+use rc_cli::{begins_restart, begins_update, remember};
 use rc_historytext::HistoryFault;
 use rc_names::NoMem;
 use rc_recovery::TwoFiles;
@@ -171,7 +171,8 @@ fn is_first_step(rt: &HostRuntime, loaded: &Loaded<'_>, read: &ReadFiles<'_>) ->
     }
 }
 
-// Enters what the log of a command that was cut short leaves.
+// Enters what the log of a command that was cut short leaves, and first its ends into the failures
+// of the session.
 fn recover_cut<'a>(
     rt: &HostRuntime,
     loaded: &Loaded<'_>,
@@ -183,6 +184,7 @@ fn recover_cut<'a>(
     requires unwritten { IsUnwritten held }
     ensures { IfOk result (IsRecovered loaded.now read.entry.logged.path) }
 {
+    remember(rt, read.path(), read.log());
     match recovered(rt, loaded, &mut held) {
         Ok(came) => Ok(Recovery::Made(read, held, came)),
         Err(fault) => Err(unrecovered(read, held, fault)),

@@ -88,7 +88,7 @@ pub fn serve<'x, T: Threads + Wait + Sync, R: Read, W: Write, F: Write, S: Store
         }
         SessionCommand::Status(request) => {
             let log = logged_in(&opened.note);
-            status_as_asked(rt.alloc(), request, bytes_of(base), live, log, devices)
+            status_as_asked(rt, request, bytes_of(base), live, log, devices)
         }
         SessionCommand::Check(request) => {
             check_as_asked(rt, request, bytes_of(base), live, devices)
@@ -174,6 +174,7 @@ fn host_of<'h, T, L>(
     ensures { option_map (λ files. files.now) result.run_files
         ≡ option_map (λ runs. runs.files) opened.now.runs }
 {
+    let remembers = remembered_path(opened);
     let run_files = match opened.runs() {
         Some(runs) => Some(runs.files()),
         None => None,
@@ -183,7 +184,16 @@ fn host_of<'h, T, L>(
         runtime: rt,
         log,
         run_files,
+        remembers,
         alloc: rt.alloc(),
+    }
+}
+
+// Returns the path of the file whose failures are remembered, if the command has runs.
+fn remembered_path<'h>(opened: &'h Opened<'_>) -> Option<&'h str> {
+    match opened.runs() {
+        Some(runs) => Some(runs.path()),
+        None => None,
     }
 }
 

@@ -31,7 +31,7 @@ pub fn carry_out<'a, T: Threads + Wait + Sync>(
 ) -> u8 {
     match open(rt, command, file) {
         Ok((opened, store)) => {
-            tell_note(rt, opened.note());
+            tell_note(rt, &opened);
             let files = FileOptions {
                 base: file,
                 live: opened.session().live,

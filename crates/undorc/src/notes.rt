@@ -1,25 +1,49 @@
 //! Messages about the lock and the run log beside the file of a session.
 use log::info;
 use rc_launch::frontend::{FileOptions, ForShell, tell_failure, tell_file, tell_no_history};
-use rc_launch::{FileText, LiveText, Note, OpenFault, Opened, left_report};
+use rc_launch::{FileText, LiveText, LogText, Note, OpenFault, Opened, left_report};
 use rc_streams::inherited::Unfit;
 use rc_streams::messages::{HINT, MESSAGE, Messages};
-use rc_streams::run_file;
+use rc_streams::{live_lock, run_file};
 use std::io;
 
-/// Prints what was found beside the file of a session.
-pub fn tell_note(rt: &HostRuntime, note: &Note<'_>) {
-    match note {
-        Note::Nothing | Note::Logged(_) => {}
+/// Prints what was found beside the file of the session of a command.
+pub fn tell_note(rt: &HostRuntime, opened: &Opened<'_>) {
+    match opened.note() {
+        Note::Nothing => {}
         Note::UnderWay => info!(Messages(rt); target: MESSAGE, "a command is under way"),
-        Note::Cut => info!(Messages(rt); target: MESSAGE,
-            "a command was cut short: the next one enters what it has moved"),
+        Note::Cut => tell_cut(rt),
+        Note::Logged(log) => {
+            if is_cut(rt, opened, log) {
+                tell_cut(rt);
+            }
+        }
         Note::Locked(recovery) => {
             if let Some(report) = recovery.report() {
                 info!(Messages(rt); target: MESSAGE, "Recovered");
                 tell_report(rt, report);
             }
         }
+    }
+}
+
+/// Reports that a command was cut short.
+fn tell_cut(rt: &HostRuntime) {
+    info!(Messages(rt); target: MESSAGE,
+        "a command was cut short: the next one enters what it has moved");
+}
+
+/// Returns true if a run log is that of a command on the text of the session, and no command is
+/// under way.
+fn is_cut(rt: &HostRuntime, opened: &Opened<'_>, log: &LogText<'_>) -> bool {
+    match opened.live().bytes() {
+        Some(text) => {
+            let bytes = log.bytes();
+            bytes.len() > text.len()
+                && bytes.starts_with(text)
+                && matches!(live_lock::is_held(rt, log.path()), Ok(false))
+        }
+        None => false,
     }
 }
 

@@ -79,7 +79,7 @@ for signal in KILL TERM INT HUP QUIT; do
     expect 0 'at 1 of 2\n0 +a +b\nok\n' 'undorc: Recovered\n' 'journal\n' session -b base -l live -x none
     expect 0 'live a b\nok\n' '' '' live -b base -l live
     wants '' ''
-    find . -name 'live.*' ! -name live.lock > out
+    find . -name 'live.*' ! -name live.lock ! -name live.failed > out
     : > err
     echo 0 > status
     judge 'a log that was entered is gone' 0

@@ -284,9 +284,14 @@ const RESTART: [ToldArg; 12] = [
 ];
 
 // The state of a session, which is shown without a lock.
-const STATUS: [ToldArg; 3] = [
+const STATUS: [ToldArg; 4] = [
     BASE,
     Valued("live", 'l', "FILE", "The file of the session"),
+    Flag(
+        "failed",
+        'f',
+        "Print nothing but what failed, and end with status 3 if anything did",
+    ),
     NAMES,
 ];
 

@@ -20,6 +20,7 @@ use crate::controlled::uncontrolled;
 use crate::sessions::gates::gate_for;
 use crate::sessions::host::Host;
 use crate::sessions::keeping::LiveFile;
+use crate::sessions::remembering::Remembering;
 use crate::sessions::service::Service;
 use crate::sessions::session_fault::SessionFault;
 use log::Log;
@@ -40,7 +41,13 @@ pub(crate) fn begin_gated<'h, 'a, T, L: Log + Sync>(
     service: Service<'_>,
     base: Option<&[u8]>,
     live: LiveFile<'_>,
-) -> Result<(Telling<'h, L, SessionGate<'h, HostRuntime, L>>, Session), SessionFault<'a>>
+) -> Result<
+    (
+        Telling<'h, L, Remembering<'h, SessionGate<'h, HostRuntime, L>>>,
+        Session,
+    ),
+    SessionFault<'a>,
+>
     ensures gate { IfOk result (λ both. IsGateFor db (making_ask_of request.now.making) both.0) }
     ensures begun { IfOk result (λ both. (start : Line) × BeginsBy db request.now.bound
         (file_named (session_ask_of request.now).live live.entry) start

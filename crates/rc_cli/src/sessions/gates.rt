@@ -7,6 +7,7 @@ ghost use Rattle.rc_cli.specs.Gating.{IsGateFor, IsGateless, IsOnFiles, shows_wr
 
 use crate::sessions::failing::gate_of;
 use crate::sessions::host::Host;
+use crate::sessions::remembering::Remembering;
 use crate::sessions::session_fault::SessionFault;
 use log::Log;
 use rc_args::{Making, Programs, Verbosity};
@@ -21,7 +22,7 @@ pub fn gate_for<'h, 'a, T, L: Log + Sync>(
     db: &Db,
     making: &Making<'a>,
     verbosity: Verbosity,
-) -> Result<Telling<'h, L, SessionGate<'h, HostRuntime, L>>, SessionFault<'a>>
+) -> Result<Telling<'h, L, Remembering<'h, SessionGate<'h, HostRuntime, L>>>, SessionFault<'a>>
     ensures made { IfOk result (λ gate. IsGateFor db.now (making_ask_of making.now) gate) }
     ensures files { IfOk result
         (IsOnFiles verbosity (option_map (λ files. files.now) host.now.run_files)) }
@@ -31,6 +32,7 @@ pub fn gate_for<'h, 'a, T, L: Log + Sync>(
         Ok(gate) => gate,
         Err(fault) => return Err(fault),
     };
+    let gate = Remembering::new(host.runtime, host.remembers, gate);
     match Telling::new(host.runtime, host.log, host.alloc, db, gate) {
         Ok(gate) => Ok(gate),
         Err(_) => Err(SessionFault::Failed(ServeFault::Memory)),

@@ -4,13 +4,15 @@ use rc_streams::stop_file::{self, StopFile};
 use std::alloc::Global;
 
 /// What a session runs on: the threads of its workers, the runtime that starts programs, the log
-/// that takes messages, the files of its runs, if it has any, and memory.
+/// that takes messages, the files of its runs, if it has any, the path of the file whose failures
+/// are remembered, if there is one, and memory.
 #[derive(Drop)]
 pub struct Host<'h, T, L> {
     pub threads: &'h T,
     pub runtime: &'h HostRuntime,
     pub log: &'h L,
     pub run_files: Option<&'h RunFiles>,
+    pub remembers: Option<&'h str>,
     pub alloc: Global,
 }
 

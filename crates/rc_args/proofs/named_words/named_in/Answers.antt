@@ -5,5 +5,6 @@ pub returns-clause-asked : goal.returns-clause-asked
 returns-clause-asked c = record {
   session = c.in_ok-session.ensures.asked;
   names = c.in_ok-names.ensures;
+  failed = c.is_on.ensures;
   one_line = c.if-not-are_one_line.ensures.0 refl;
 }

@@ -1,0 +1,121 @@
+//! What `status` shows of the failures that are remembered.
+ghost use Rattle.std.specs.Prelude.{◌≡◌, ◌++◌, ◌∷◌, [], codes, map, option_map, IfOk, OnOk};
+ghost use Rattle.rc_script.specs.Words.{words_in};
+ghost use Rattle.rc_cli.specs.Failures.{failed_line, failure_at, failure_for, failure_of};
+ghost use Rattle.rc_cli.specs.Failures.{failures_of, plain_line, shown_line, shown_lines};
+ghost use Rattle.rc_cli.specs.Failures.{shown_text};
+
+use crate::failures::{Failure, add_about, is, lines_of};
+use rc_script::words_of;
+use std::alloc::{AllocError, Global};
+
+/// Returns what is shown of a text whose lines have a name and a word each: a service that is down
+/// is shown with its failure, if it has one. If `only`, nothing but failures is shown.
+pub(crate) fn shown_text(
+    alloc: Global,
+    text: &[u8],
+    failures: &[Failure<'_>],
+    only: bool,
+) -> Result<Vec<u8>, AllocError>
+    ensures { IfOk result (λ shown. shown.items
+        ≡ shown_text only (failures_of failures.now) text.now) }
+{
+    let lines = lines_of(alloc, text)?;
+    let shown = shown_lines(alloc, &lines, failures, only);
+    drop(lines);
+    shown
+}
+
+// Returns what is shown of lines.
+fn shown_lines(
+    alloc: Global,
+    lines: &[&[u8]],
+    failures: &[Failure<'_>],
+    only: bool,
+) -> Result<Vec<u8>, AllocError>
+    ensures { IfOk result (λ shown. shown.items
+        ≡ shown_lines only (failures_of failures.now) [] (map (λ line. line.now) lines.now)) }
+{
+    let mut shown = Vec::new(alloc);
+    for place in 0..lines.len() {
+        let words = words_of(alloc, lines[place])?;
+        add_line(&mut shown, &words, failures, only)?;
+    }
+    Ok(shown)
+}
+
+// Appends what is shown of a line of these words.
+fn add_line(
+    shown: &mut Vec<u8>,
+    words: &[&[u8]],
+    failures: &[Failure<'_>],
+    only: bool,
+) -> Result<(), AllocError>
+    ensures { OnOk result (shown.new.items ≡ shown.old.items
+        ++ shown_line only (failures_of failures.now) (map (λ word. word.now) words.now)) }
+{
+    let [name, word] = words else {
+        return Ok(());
+    };
+    match failure_at(failures, name, word) {
+        Some(failure) => add_failed(shown, name, failure),
+        None => add_plain(shown, name, word, only),
+    }
+}
+
+// Returns the failure of a service that is down.
+fn failure_at<'b, 'a>(
+    failures: &'b [Failure<'a>],
+    name: &[u8],
+    word: &[u8],
+) -> Option<&'b Failure<'a>>
+    ensures { option_map (λ f. failure_of f.now) result
+        ≡ failure_at (failures_of failures.now) name.now word.now }
+{
+    if is(word, b"down") {
+        failure_for(failures, name)
+    } else {
+        None
+    }
+}
+
+// Returns the first failure of a service.
+fn failure_for<'b, 'a>(failures: &'b [Failure<'a>], name: &[u8]) -> Option<&'b Failure<'a>>
+    ensures { option_map (λ f. failure_of f.now) result
+        ≡ failure_for (failures_of failures.now) name.now }
+{
+    for failure in failures {
+        if failure.name == name {
+            return Some(failure);
+        }
+    }
+    None
+}
+
+// Appends the line of a service with its failure.
+fn add_failed(shown: &mut Vec<u8>, name: &[u8], failure: &Failure<'_>) -> Result<(), AllocError>
+    ensures { OnOk result (shown.new.items
+        ≡ shown.old.items ++ failed_line name.now (failure_of failure.now)) }
+{
+    shown.extend_from_slice(name)?;
+    shown.extend_from_slice(b" failed ")?;
+    add_about(shown, failure)?;
+    shown.push(b'\n')?;
+    Ok(())
+}
+
+// Appends the line of a service without a failure. If `only`, it must have failed in the command
+// that is under way.
+fn add_plain(shown: &mut Vec<u8>, name: &[u8], word: &[u8], only: bool) -> Result<(), AllocError>
+    ensures { OnOk result (shown.new.items
+        ≡ shown.old.items ++ plain_line only name.now word.now) }
+{
+    if only && !is(word, b"failed") {
+        return Ok(());
+    }
+    shown.extend_from_slice(name)?;
+    shown.push(b' ')?;
+    shown.extend_from_slice(word)?;
+    shown.push(b'\n')?;
+    Ok(())
+}
