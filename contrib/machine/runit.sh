@@ -51,7 +51,7 @@ has_ended() {
 
 # is_ready DIR: whether its check succeeds, which may take as long as this script
 is_ready() {
-    attend timeout -k 1 "$(seconds "$bound")" ./check > /dev/null 2>&1
+    attend timeout -k 1 "$(($(tenths "$bound") / 10 + 1))" ./check > /dev/null 2>&1
 }
 
 # has_started DIR: whether there is a process
