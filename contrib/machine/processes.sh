@@ -111,9 +111,9 @@ tenths() {
     echo "$(($1 > 0 ? $1 / 100 : 1000000000))"
 }
 
-# is_state DIR STATE: whether state_of prints that
+# is_state DIR STATE: whether state_of prints that. If a signal ends it, the shell says nothing.
 is_state() {
-    [ "$(state_of "$1")" = "$2" ]
+    { [ "$(state_of "$1")" = "$2" ]; } 2> /dev/null
 }
 
 # has_supervisor DIR
