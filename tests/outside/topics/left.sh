@@ -2,8 +2,8 @@
 # program.sh reads this file.
 # shellcheck source=../trees.sh
 . "$here/trees.sh"
-mkdir left
-cd left
+mkdir left-running
+cd left-running
 
 # The oneshots `base`, and `web` that needs it, whose scripts say when they begin and end. That of `web` waits for the
 # file `go`. `short` does, too, and has a limit.
