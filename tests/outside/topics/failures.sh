@@ -126,7 +126,10 @@ cut='undorc: a command was cut short: the next one enters what it has moved\n'
 status_shows 3 'flag failed\n' "$cut" -f
 : > go
 ends_with 0 change -d fine
-remembers 'a recovery' "${head}slow up cut-short TIME 1\nflag up failed:3 TIME 1\n"
+# Either of the two may have begun first.
+{ head -n 1 live.failed && tail -n +2 live.failed | sort; } > sorted
+mv sorted live.failed
+remembers 'a recovery' "${head}flag up failed:3 TIME 1\nslow up cut-short TIME 1\n"
 
 # A text that is none of failures is left alone, told, and shows nothing.
 for text in 'something else\n' 'undorc-failed 2\n' "${head}flag up failed:3\n" "${head}a b c d e f\n"; do
