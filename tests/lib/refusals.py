@@ -108,9 +108,10 @@ class Run:
         self.status = os.waitstatus_to_exitcode(status)
         self.out, told = map(text_in, self.streams)
         # Why a program can't be started is said in a line of its own, before that of its transition; so is why a
-        # failure is not remembered.
+        # failure is not remembered. Beside the log of a run, each command says first that it was cut short.
+        cut = ": a command was cut short: " if self.options["log"] else "\n\n"
         self.err = "".join(line for line in told.splitlines(True)
-                           if " can't be started: " not in line and ".failed: " not in line)
+                           if " can't be started: " not in line and ".failed: " not in line and cut not in line)
         self.grown = [int(word) for word in taken(self.counts).split()]
         self.noted = taken(self.log) if self.options["scripts"] else ""
         self.live, self.left = "", []
