@@ -46,7 +46,7 @@ cut() {
     rm -f begun go
     signal=$1
     shift
-    env --default-signal=INT --default-signal=QUIT "$program" "$@" -b base -l live < /dev/null > cut.out 2> cut.err &
+    env --default-signal=HUP --default-signal=INT --default-signal=QUIT "$program" "$@" -b base -l live < /dev/null > cut.out 2> cut.err &
     killed=$!
     until_begun
     kill "-$signal" "$killed"
