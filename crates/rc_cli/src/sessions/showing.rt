@@ -53,7 +53,7 @@ pub(crate) fn show_down<W: Write>(
     Ok(Ending::Done)
 }
 
-// Returns the answer of what is down.
+// Returns the line of the services that are not live, followed by `ok`.
 fn down_answer(alloc: Global, session: &Session) -> Result<Vec<u8>, NoMem>
     requires closed { session.now.begun ≡ false }
     ensures { IfOk result (λ text. text.items
