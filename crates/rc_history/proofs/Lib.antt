@@ -26,6 +26,8 @@ mod Borders
 mod Entering
 -- The first half of an update leaves what goes on unaltered.
 mod Halves
+-- A service goes on unaltered in another database, or it does not.
+mod Unaltered
 -- A history without its oldest generation, or without the later ones, is one.
 mod Dropping
 -- An update is taken back by one, two or three steps.

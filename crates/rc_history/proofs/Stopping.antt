@@ -100,12 +100,16 @@ pub redo_stands : (h new : History) (marks : List Bool) → IsHistory h → Redo
 redo_stands h new marks of redo = redoes_past marks redo.0 h new of redo.1
 
 -- the nearest stop is where the update began
-nearest : (marks : List Bool) (from old end : ℕ) → (IsPassedAt marks from → ⊥) → from < end
-    → old < end → ((k : ℕ) → from < k → k < end → IsPassedAt marks k)
+nearest : (marks : List Bool) (from old end : ℕ)
+    → (IsPassedAt marks from → ⊥) ⊎ (from ≡ 0) → from < end → old < end
+    → ((k : ℕ) → from < k → k < end → IsPassedAt marks k)
     → ((k : ℕ) → old < k → k < end → IsPassedAt marks k)
     → (IsPassedAt marks old → ⊥) ⊎ (old ≡ 0) → old ≡ from
 nearest marks from old end begins low less passed between stop =
-    let not_less : old < from → ⊥ = λ is. begins (between from is low) in
+    let not_less : old < from → ⊥ = λ is. elim begins [
+      | inl free ↦ free (between from is low)
+      | inr none ↦ omega (arith, is, none)
+    ] in
     let not_more : from < old → ⊥ = λ is. elim stop [
       | inl free ↦ free (passed old is less)
       | inr none ↦ omega (arith, is, none)
@@ -118,6 +122,7 @@ pub one_undo : (h : History) → IsHistory h → OneUndoTakesBack h
 one_undo h of list d new u =
     let added = update_adds h list d new of u in (
       added.number,
+      added.adds,
       added.some,
       added.few,
       λ marks old passed undo.

@@ -2,7 +2,7 @@
 use Rattle.std.specs.Prelude.{◌≡◌, ◌≢◌, ◌≤◌, ◌<◌, ◌+◌, ◌-◌, ◌⊎◌, ◌++◌, ◌∷◌, [], ℕ, List, Some}
 use Rattle.std.specs.Prelude.{slice_get}
 use Rattle.std.specs.Prelude.{Result, Ok, length}
-use Rattle.rc_model.specs.Names.{Has}
+use Rattle.rc_model.specs.Names.{Has, Holds}
 use Rattle.rc_model.specs.declared.Refusal.{Refusal}
 use Rattle.rc_model.specs.declared.Event.{Event}
 use Rattle.rc_model.specs.Database.{Database}
@@ -11,6 +11,7 @@ use Rattle.rc_model.specs.Plan.{Ask}
 use Rattle.rc_model.specs.declared.Mode.TheVariants.{DownAll}
 use Rattle.rc_model.specs.Session.{Command, Change, Undo, Redo, Reported}
 use Rattle.rc_model.specs.Headline.{IsUndo, IsRedo, WentWell, Leaves, LeavesAhead}
+use Rattle.rc_model.specs.Headline.{TargetOfCommand}
 use Rattle.rc_update.specs.Conversions.{Conversion}
 use Rattle.rc_update.specs.Carrying.{IsTwin, IsUnaltered, IsAlteredUp, AreNamesOf}
 use Rattle.rc_history.specs.History.{Generation, History, IsHistory, places, cursor_of}
@@ -144,11 +145,18 @@ DropsEnd h new = DropsOldest h new ⊎ DropsLater h new
 abbrev pub HasRoom : History → Type 0
 HasRoom h = length (states h.present.line) < h.present.line.bound
 
--- an update is carried out: its first half goes well, its database is entered, and its second half
--- is a change there, which may fail
+-- the same history, or the first one without its oldest generation, where it may have no more
+abbrev pub MayDropOldest : History → History → Type 0
+MayDropOldest h new = (new ≡ h) ⊎ DropsOldest h new
+
+-- an update is carried out: its first half comes to its target; its database is entered, by the
+-- conversions that are said of it, for which the oldest generation may be dropped; and its second
+-- half is a change there, which may fail
 pub record IsUpdate (h : History) (list : List Conversion) (d : Database) (new : History)
     : Type 0 where
+  pub by : List Conversion
   pub half : History
+  pub room : History
   pub entered : History
   pub lowering : Ask
   pub raising : Ask
@@ -158,9 +166,25 @@ pub record IsUpdate (h : History) (list : List Conversion) (d : Database) (new :
   pub second : Reported
   pub asks : IsFirstHalf h list d lowering
   pub lowers : MovesInside h (Change lowering lowered) (Ok first) half
-  pub well : WentWell (Ok first)
-  pub enters : Enters half list d entered
+  pub arrives : Holds half.present.line.current.live
+      (TargetOfCommand h.present.base h.present.line (Change lowering lowered))
+  pub drops : MayDropOldest half room
+  pub enters : Enters room by d entered
   pub raises : MovesInside entered (Change raising raised) (Ok second) new
+
+-- a change has added so many states to a line: none if it left the line as it was
+abbrev pub AddsTo : (line new : Line) → (number : ℕ) → Type 0
+AddsTo line new number = ((new ≡ line) × (number ≡ 0))
+    ⊎ ((new.current ≢ line.current) × (number ≡ 1))
+
+-- an update has added so many places: one where it entered its database, and one with each half
+-- that moved something
+abbrev pub AddsPlaces : (h : History) (list : List Conversion) (d : Database) (new : History)
+    → IsUpdate h list d new → (number : ℕ) → Type 0
+AddsPlaces h list d new update number = (first : ℕ) × (second : ℕ)
+    × AddsTo h.present.line update.half.present.line first
+    × AddsTo update.entered.present.line new.present.line second
+    × (number ≡ first + 1 + second)
 
 -- one, two or three steps back that go well restore what the update found: its database, its live
 -- set and its bundles
@@ -175,8 +199,9 @@ abbrev pub IsCutShort : History → List Conversion → Database → History →
 IsCutShort h list d new =
     ((ask : Ask) × (events : List Event) × (report : Reported)
     × MovesInside h (Change ask events) (Ok report) new)
-    ⊎ ((half : History) × (ask : Ask) × (events : List Event) × (report : Reported)
-    × MovesInside h (Change ask events) (Ok report) half × Enters half list d new)
+    ⊎ ((half : History) × (room : History) × (ask : Ask) × (events : List Event)
+    × (report : Reported) × MovesInside h (Change ask events) (Ok report) half
+    × MayDropOldest half room × Enters room list d new)
 
 -- two steps back at most, that go well, restore what it found
 abbrev pub CutUpdatesAreTakenBack : History → Type 0

@@ -6,7 +6,7 @@ use Rattle.rc_model.specs.Database.{Database}
 use Rattle.rc_update.specs.Conversions.{Conversion}
 use Rattle.rc_history.specs.History.{History, places, places_after, cursor_of, place_now}
 use Rattle.rc_history.specs.Moves.{StepsBack, StepsOn}
-use Rattle.rc_history.specs.Promises.{IsUpdate}
+use Rattle.rc_history.specs.Promises.{AddsPlaces, IsUpdate}
 
 -- a place is passed, where there is a mark for each place, oldest first
 abbrev pub IsPassedAt : List Bool → ℕ → Type 0
@@ -56,15 +56,16 @@ pub record StandsAfter (marks : List Bool) (h new : History) : Type 0 where
   pub between : (k : ℕ) → cursor_of h < k → k < cursor_of new → IsPassedAt marks k
   pub stop : IsStopOn marks new
 
--- the marks that an update makes, which adds so many places: it begins on a stop, and passes what
--- is between that and its end
+-- the marks that an update makes, which adds so many places: it begins on a stop, or where there is
+-- nothing before, and passes what is between that and its end
 pub record ArePassed (marks : List Bool) (new : History) (number : ℕ) : Type 0 where
-  pub begins : IsPassedAt marks (cursor_of new - number) → ⊥
+  pub begins : (IsPassedAt marks (cursor_of new - number) → ⊥) ⊎ (cursor_of new - number ≡ 0)
   pub between : (k : ℕ) → cursor_of new - number < k → k < cursor_of new → IsPassedAt marks k
 
 -- one undo that goes well takes an update back: database, live set and bundles
 abbrev pub OneUndoTakesBack : History → Type 0
 OneUndoTakesBack h = (list : List Conversion) (d : Database) (new : History) →
-    IsUpdate h list d new → (number : ℕ) × (1 ≤ number) × (number ≤ 3)
+    (update : IsUpdate h list d new) → (number : ℕ)
+    × AddsPlaces h list d new update number × (1 ≤ number) × (number ≤ 3)
     × ((marks : List Bool) (old : History) → ArePassed marks new number → Undoes marks new old →
     place_now old ≡ place_now h)

@@ -1,11 +1,11 @@
 //! Laws of a history, each the contract of a function that does nothing.
-ghost use Rattle.std.specs.Prelude.{[], ℕ, Bool, List, Result};
+ghost use Rattle.std.specs.Prelude.{◌⊎◌, [], ℕ, Bool, List, Result};
 ghost use Rattle.rc_model.specs.Names.{Has};
 ghost use Rattle.rc_model.specs.Graph.{IsClosed};
 ghost use Rattle.rc_model.specs.declared.Refusal.{Refusal};
 ghost use Rattle.rc_model.specs.Database.{Database, IsDatabase};
 ghost use Rattle.rc_model.specs.Session.{Command, Reported};
-ghost use Rattle.rc_update.specs.Carrying.{Carried};
+ghost use Rattle.rc_update.specs.Carrying.{Carried, IsUnaltered};
 ghost use Rattle.rc_update.specs.Conversions.{Conversion};
 ghost use Rattle.rc_history.specs.History.{Generation, History, IsBorder, IsGeneration, IsHistory};
 ghost use Rattle.rc_history.specs.Moves.{Enters, IsAcross, MovesInside};
@@ -88,6 +88,12 @@ pub fn next_step_goes_on()
 /// An undo of a line that is not full loses no place, whether it goes well or not.
 pub fn undos_keep_places()
     ensures { (h : History) → IsHistory h → UndosKeepPlaces h }
+{}
+
+/// A service goes on unaltered in another database, or it does not: which one can be decided.
+pub fn services_go_on_unaltered_or_not()
+    ensures { (old new : Database) (list : List Conversion) → IsDatabase old → IsDatabase new
+        → (s : ℕ) → IsUnaltered old new list s ⊎ (IsUnaltered old new list s → ⊥) }
 {}
 
 /// If the first half of an update goes well, all that is still live goes on unaltered, so the

@@ -51,3 +51,21 @@ mod TravelledStops
 -- What an undo or a redo leaves that does not go well: whole steps, and then what remains of one
 -- more.
 mod HaltedSteps
+-- The conversions that the text of a history says of an update.
+mod UpdatedNames
+-- What is live after the first half of an update, and that it goes on unaltered.
+mod UpdatedHalves
+-- A line after a change that moved something, as its text has it, and the marks of a step.
+mod UpdatedLines
+-- The generations of a text after the moves of an update, and their marks.
+mod UpdatedTexts
+-- A step of an update that is kept in the text of a history is one in the history that it gives.
+mod UpdatedSteps
+-- A database that an update enters on the text of a history is entered in the history.
+mod UpdatedBorders
+-- The halves of an update on the text of a history, and its end.
+mod UpdatedEnds
+-- An update on the text of a history is one of the history that it gives.
+mod UpdatedWhole
+-- A history that begins gives one generation, and so many places are added by an update.
+mod UpdatedBegins

@@ -78,7 +78,7 @@ first_stands database session kept (is, spelled) = (
 )
 
 -- the generation at the end
-at_end : (gs : List GenerationText) (g : GenerationText) (k : ℕ) → k ≡ length gs
+pub at_end : (gs : List GenerationText) (g : GenerationText) (k : ℕ) → k ≡ length gs
     → slice_get (gs ++ g ∷ []) k ≡ Some g
 at_end [] g zero here = refl
 at_end [] g (suc k) here = absurd (omega (arith, here))

@@ -44,7 +44,7 @@ not_next line next is same =
     ))
 
 -- a line and the next one have the same first and last states
-first_pushed : (xs : List State) (y z : State)
+pub first_pushed : (xs : List State) (y z : State)
     → history.first_of (xs ++ y ∷ []) z ≡ history.first_of xs y
 first_pushed [] y z = refl
 first_pushed (x ∷ xs) y z = refl
@@ -58,7 +58,7 @@ pub next_last : (line next : Line) → IsNext line next → last_state next ≡ 
 next_last line next is = ap (λ (ss : List State). last_of line.current ss) (sym is.reached)
 
 -- the texts of a line and of the next one have the same oldest state
-oldest_pushed : (f : State → StateText) (xs : List State) (y z : State)
+pub oldest_pushed : (f : State → StateText) (xs : List State) (y z : State)
     → first_of (map f (xs ++ y ∷ [])) (f z) ≡ first_of (map f xs) (f y)
 oldest_pushed f [] y z = refl
 oldest_pushed f (x ∷ xs) y z = refl
@@ -129,7 +129,7 @@ pub record TextLaws : Type 0 where
 -- what a text of a line says
 module _ (laws : TextLaws) (d : Database) (line : Line) (is : IsDatabase d) (of : IsLineOf d line)
     (bytes : List ℕ) (s : LiveText) (session : IsSession bytes s) where
-  says_new : bytes ≡ spelling d line → s ≡ text_of d line
+  pub says_new : bytes ≡ spelling d line → s ≡ text_of d line
   unfolding spelling
   says_new spells =
       laws.once s (text_of d line) [] [] session.is (laws.new d line is of)

@@ -68,8 +68,8 @@ get_back (x ∷ xs) ys zero k b at is = absurd (omega (arith, at))
 get_back (x ∷ xs) ys (suc n) k b at is = get_back xs ys n k b (omega (arith, at)) is
 
 -- the mark of the current state of a generation
-mark_at : (gs : List GenerationText) (hs : List Generation) (k : Generation) (ks : List Generation)
-    (g : GenerationText) → slice_get gs (length hs) ≡ Some g
+pub mark_at : (gs : List GenerationText) (hs : List Generation) (k : Generation)
+    (ks : List Generation) (g : GenerationText) → slice_get gs (length hs) ≡ Some g
     → slice_get (all_marks gs (hs ++ k ∷ ks)) (length (all_places hs) + length k.line.before)
     ≡ Some (mark_between g.first_passed g.last_passed (length k.line.before) (length k.line.after))
 mark_at [] hs k ks g there = absurd (none-some g there)

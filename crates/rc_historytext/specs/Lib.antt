@@ -32,6 +32,8 @@ pub mod Travelling
 pub mod Halting
 -- Which history the bytes of a text give, with a mark for each of its places.
 pub mod Places
+-- An update on the text of a history, from where it begins to its end.
+pub mod Updates
 -- Which line is due where, for reading alone: that it is what the texts say is a lemma.
 pub mod Due
 -- What stands in front of bytes, a line or none, for reading alone.

@@ -21,6 +21,7 @@ mod session_text;
 mod standing;
 mod states;
 pub mod travel_laws;
+pub mod update_laws;
 mod updating;
 mod write;
 
