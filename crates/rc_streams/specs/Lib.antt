@@ -10,3 +10,5 @@ pub mod Input
 pub mod Taking
 -- With what a program inherits it can't run scripts.
 pub mod Inheriting
+-- The last lines of a text.
+pub mod LastLines

@@ -4,10 +4,12 @@
 //! link, or a file of another user, that is put there in between is refused, and nothing of it is
 //! written or cut.
 
-use crate::replaced_file::{beside, check_plain, place};
+use crate::replaced_file::{beside, check_plain, folder_of, place};
+use crate::whole_file;
 use std::fs::{self, File, Metadata, OpenOptions};
 use std::io::{self, ErrorKind};
 use std::os::unix::fs::{MetadataExt, OpenOptionsExt};
+use std::path::PathBuf;
 
 /// The rights of a file that is made: its owner's alone.
 pub(crate) const RIGHTS: u32 = 0o600;
@@ -150,6 +152,69 @@ pub(crate) fn stands_at(rt: &HostRuntime, path: &str, file: &File) -> bool {
     match (file.metadata(), fs::symlink_metadata(rt, path)) {
         (Ok(opened), Ok(found)) => is_same(&opened, &found),
         _ => false,
+    }
+}
+
+/// Reads the file beside a session's file that has the given ending. Returns none if there is none.
+/// Fails unless it belongs to the user who runs the program, to the owner of the session's file, or
+/// to the owner of their directory: those may replace both.
+pub(crate) fn read_beside(
+    rt: &HostRuntime,
+    path: &str,
+    ending: &str,
+) -> io::Result<Option<Vec<u8>>> {
+    let place = place(rt, path)?;
+    let bytes = match beside(rt, &place, ending) {
+        Ok(beside) => {
+            let bytes = read_there(rt, &place, beside.as_str());
+            drop(beside);
+            bytes
+        }
+        Err(error) => Err(error),
+    };
+    drop(place);
+    match bytes {
+        Ok(bytes) => Ok(Some(bytes)),
+        Err(error) if error.kind() == ErrorKind::NotFound => Ok(None),
+        Err(error) => Err(error),
+    }
+}
+
+/// Reads the file at `beside`, which is beside the session's file at `place`. Does not wait for a
+/// pipe.
+fn read_there(rt: &HostRuntime, place: &PathBuf, beside: &str) -> io::Result<Vec<u8>> {
+    check_plain(rt, beside)?;
+    let file = File::open(rt, beside)?;
+    match check_readable(rt, place, beside, &file) {
+        Ok(()) => whole_file::read_all(rt, file),
+        Err(error) => {
+            drop(file);
+            Err(error)
+        }
+    }
+}
+
+/// Fails unless an open file is the plain file at `beside`, with no other name, and belongs to a
+/// user who may replace it.
+fn check_readable(rt: &HostRuntime, place: &PathBuf, beside: &str, file: &File) -> io::Result<()> {
+    let opened = file.metadata()?;
+    check_there(rt, beside, &opened)?;
+    let owner = opened.uid();
+    if owner == libc::geteuid()
+        || owns(rt, owner, place.as_str())
+        || owns(rt, owner, folder_of(place))
+    {
+        Ok(())
+    } else {
+        Err(refused("belongs to another user"))
+    }
+}
+
+/// Returns true if what a path leads to belongs to a user.
+fn owns(rt: &HostRuntime, user: u32, path: &str) -> bool {
+    match fs::metadata(rt, path) {
+        Ok(found) => found.uid() == user,
+        Err(_) => false,
     }
 }
 

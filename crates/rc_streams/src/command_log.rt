@@ -1,6 +1,6 @@
-//! The log of the commands that altered a session: `FILE.log` beside `FILE`, where it is there.
+//! The log of the commands that altered a session: `FILE.log` beside `FILE`.
 
-use crate::beside_file::{Access, open_there, path_beside};
+use crate::beside_file::{Access, open_own, open_there, path_beside};
 use crate::whole_file;
 use std::fs::File;
 use std::io::{self, ErrorKind};
@@ -8,10 +8,15 @@ use std::io::{self, ErrorKind};
 /// The ending that follows the path of a session's file in the path of its log.
 const ENDING: &str = ".log";
 
-/// Opens the log to append to it. Returns none if there is no log.
-pub fn open(rt: &HostRuntime, path: &str) -> io::Result<Option<File>> {
+/// Opens the log to append to it. If there is no log, creates it if `makes`, and returns none
+/// otherwise.
+pub fn open(rt: &HostRuntime, path: &str, makes: bool) -> io::Result<Option<File>> {
     let beside = path_beside(rt, path, ENDING)?;
-    let opened = open_there(rt, beside.as_str(), Access::Append);
+    let opened = if makes {
+        open_own(rt, beside.as_str(), Access::Append)
+    } else {
+        open_there(rt, beside.as_str(), Access::Append)
+    };
     drop(beside);
     match opened {
         Ok(file) => Ok(Some(file)),

@@ -178,8 +178,9 @@ fn put(rt: &HostRuntime, path: &str, rights: Option<Permissions>, bytes: &[u8]) 
     put
 }
 
-/// Puts a file with the given bytes and permissions at a place that is no link.
-fn put_at(
+/// Replaces the file at a place with the given bytes and permissions, or creates it. Does not
+/// follow a link. Without permissions, the file gets those of a new file.
+pub(crate) fn put_at(
     rt: &HostRuntime,
     place: &PathBuf,
     rights: Option<Permissions>,

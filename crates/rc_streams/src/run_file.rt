@@ -9,14 +9,13 @@
 ghost use Rattle.std.specs.Prelude.{◌≤◌};
 
 use crate::beside_file::{
-    Access, check_there, open_there, open_to_append, open_to_write, path_beside, refused,
+    Access, open_there, open_to_append, open_to_write, path_beside, read_beside,
 };
-use crate::replaced_file::{check_plain, clear};
+use crate::replaced_file::clear;
 use crate::umask::new_rights;
-use crate::whole_file;
 use std::fs::{self, File};
 use std::io::{self, ErrorKind, Write};
-use std::os::unix::fs::{FileExt, MetadataExt};
+use std::os::unix::fs::FileExt;
 use std::sync::atomic::{AtomicBool, AtomicU64, Ordering};
 
 /// The ending that follows the path of a session's file in the path of its run log.
@@ -340,44 +339,9 @@ fn used_in(bytes: &[u8]) -> usize {
 }
 
 /// Reads the run log of a session's file. Returns none if there is none. Fails unless the log
-/// belongs to the user who runs the program, or to the owner of that file, whose commands made it.
+/// belongs to a user whose files are read there.
 pub fn read(rt: &HostRuntime, path: &str) -> io::Result<Option<Vec<u8>>> {
-    let beside = path_beside(rt, path, ENDING)?;
-    let opened = open_to_read(rt, path, beside.as_str());
-    drop(beside);
-    match opened.and_then(|file| whole_file::read_all(rt, file)) {
-        Ok(bytes) => Ok(Some(bytes)),
-        Err(error) if error.kind() == ErrorKind::NotFound => Ok(None),
-        Err(error) => Err(error),
-    }
-}
-
-/// Opens the run log at `beside`, which is that of the session's file at `path`.
-fn open_to_read(rt: &HostRuntime, path: &str, beside: &str) -> io::Result<File> {
-    check_plain(rt, beside)?;
-    let file = File::open(rt, beside)?;
-    match check_owner(rt, path, beside, &file) {
-        Ok(()) => Ok(file),
-        Err(error) => {
-            drop(file);
-            Err(error)
-        }
-    }
-}
-
-/// Fails unless an open file is the run log at a path and belongs to a user who may write it.
-fn check_owner(rt: &HostRuntime, path: &str, beside: &str, file: &File) -> io::Result<()> {
-    let opened = file.metadata()?;
-    check_there(rt, beside, &opened)?;
-    let is_owners = match fs::metadata(rt, path) {
-        Ok(found) => found.uid() == opened.uid(),
-        Err(_) => false,
-    };
-    if is_owners || opened.uid() == libc::geteuid() {
-        Ok(())
-    } else {
-        Err(refused("belongs to another user"))
-    }
+    read_beside(rt, path, ENDING)
 }
 
 /// Appends bytes to the run log of a session's file, by one write.
