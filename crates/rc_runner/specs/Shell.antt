@@ -11,6 +11,7 @@ use Rattle.rc_model.specs.declared.Outcome.{Outcome}
 use Rattle.rc_model.specs.declared.Outcome.TheVariants as outcome
 use Rattle.rc_model.specs.Database.{Service, Database}
 use Rattle.rc_db.specs.Service.{limit_of}
+use Rattle.rc_streams.specs.declared.output_folder.OutputFolder.{OutputFolder}
 use Rattle.rc_streams.specs.declared.run_file.RunFile.{RunFile}
 use Rattle.rc_streams.specs.declared.stop_file.StopFile.{StopFile}
 
@@ -33,17 +34,20 @@ scripts_of d runner controller limit = record {
   limit = limit;
 }
 
--- a gate that starts programs: what it is to run, whether what they write is shown, and the files
--- in which its runs are logged and by which they are called off, if there are any
+-- a gate that starts programs: what it is to run, whether what they write is shown, the directory
+-- in which it is kept, and the files in which its runs are logged and by which they are called off,
+-- if there are any
 pub record Starting : Type 0 where
   pub scripts : Scripts
   pub shows : Bool
+  pub outputs : Option OutputFolder
   pub log : Option RunFile
   pub stop : Option StopFile
 
--- one that shows nothing and logs nothing, and that nothing calls off
+-- one that shows, keeps and logs nothing, and that nothing calls off
 abbrev pub quiet : Scripts → Starting
-quiet scripts = record { scripts = scripts; shows = false; log = None; stop = None }
+quiet scripts =
+    record { scripts = scripts; shows = false; outputs = None; log = None; stop = None }
 
 -- a limit of one's own, or the usual one where that is 0
 abbrev pub limit_or : (own usual : ℕ) → ℕ

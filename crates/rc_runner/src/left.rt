@@ -1,6 +1,8 @@
-//! Programs that a command which was killed has left running.
+//! Programs that another command has started, or that one which was killed has left running.
 
-use crate::start::{ASK, END, END_REST, FIRST_PAUSE, GRACE, is_over, longer, millis_since, signal};
+use crate::start::{
+    ASK, ASK_ONE, END, END_ONE, END_REST, FIRST_PAUSE, GRACE, is_over, longer, millis_since, signal,
+};
 use rc_script::Process;
 use rc_streams::process_start::is_running;
 use std::alloc::Global;
@@ -33,6 +35,21 @@ pub fn end_left<R: Processes + Clock + Files>(
         END
     };
     let _ = signal(rt, alloc, rest, process.id);
+}
+
+/// Asks a program that another command has started to end, and all of its process group if it leads
+/// one.
+pub fn ask_to_end<R: Processes + Files>(rt: &R, alloc: Global, process: Process) {
+    if is_left(rt, alloc, process) {
+        let _ = signal(rt, alloc, ASK_ONE, process.id);
+    }
+}
+
+/// Ends a program that another command has started, and all of its process group if it leads one.
+pub fn end_at_once<R: Processes + Files>(rt: &R, alloc: Global, process: Process) {
+    if is_left(rt, alloc, process) {
+        let _ = signal(rt, alloc, END_ONE, process.id);
+    }
 }
 
 /// Waits until a program has ended, at most so many milliseconds since a moment, and returns true

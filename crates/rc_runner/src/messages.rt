@@ -15,7 +15,7 @@ pub(crate) fn tell<L: Log>(
     moment: u64,
     way: Way,
     name: &str,
-    event: Event,
+    event: Event<'_>,
 ) {
     let level = event.level();
     match line_of(alloc, moment, way, name, event) {

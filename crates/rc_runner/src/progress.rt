@@ -1,8 +1,8 @@
 //! Events of services, and the text of the message that reports one.
 
 ghost use Rattle.std.specs.Prelude.{◌≡◌, IfOk, string_bytes};
-ghost use Rattle.rc_runner.specs.Progress.{event_text, gap_text, level_of, line_text, moment_text};
-ghost use Rattle.rc_runner.specs.Progress.{zeros_text};
+ghost use Rattle.rc_runner.specs.Progress.{event_text, gap_text, level_for, level_of, line_text};
+ghost use Rattle.rc_runner.specs.Progress.{moment_text, outcome_text, zeros_text};
 
 use crate::task::word_towards;
 use log::Level;
@@ -13,33 +13,56 @@ use std::fmt;
 
 /// An event of a service on its way.
 #[derive(Clone, Copy)]
-pub(crate) enum Event {
+pub(crate) enum Event<'a> {
     /// A program is started.
     Started,
     Ended(Outcome),
+    /// It ended so, and its program wrote this line last.
+    Saying(Outcome, &'a str),
 }
 
-impl Event {
+impl Event<'_> {
     /// Returns the level of the event's message. A transition that did not succeed is a warning.
     pub(crate) fn level(&self) -> Level
         ensures { result ≡ level_of self.now }
     {
         match self {
-            Event::Started | Event::Ended(Outcome::Ok) => Level::Info,
-            Event::Ended(_) => Level::Warn,
+            Event::Started => Level::Info,
+            Event::Ended(outcome) | Event::Saying(outcome, _) => level_for(*outcome),
         }
     }
 }
 
-impl fmt::Display for Event {
+impl fmt::Display for Event<'_> {
     fn fmt<W: fmt::Write>(&self, f: &mut fmt::Formatter<W>) -> fmt::Result {
         match self {
             Event::Started => f.write_str("started"),
-            Event::Ended(Outcome::Ok) => f.write_str("ok"),
-            Event::Ended(Outcome::Failed(status)) => write!(f, "failed {status}"),
-            Event::Ended(Outcome::TimedOut) => f.write_str("timed out"),
-            Event::Ended(Outcome::NotStarted) => f.write_str("not started"),
+            Event::Ended(outcome) => write_outcome(f, *outcome),
+            Event::Saying(outcome, said) => {
+                write_outcome(f, *outcome)?;
+                write!(f, ": {said}")
+            }
         }
+    }
+}
+
+/// Writes an outcome in words.
+fn write_outcome<W: fmt::Write>(f: &mut fmt::Formatter<W>, outcome: Outcome) -> fmt::Result {
+    match outcome {
+        Outcome::Ok => f.write_str("ok"),
+        Outcome::Failed(status) => write!(f, "failed {status}"),
+        Outcome::TimedOut => f.write_str("timed out"),
+        Outcome::NotStarted => f.write_str("not started"),
+    }
+}
+
+/// Returns the level of the message that reports an outcome.
+fn level_for(outcome: Outcome) -> Level
+    ensures { result ≡ level_for outcome }
+{
+    match outcome {
+        Outcome::Ok => Level::Info,
+        Outcome::Failed(_) | Outcome::TimedOut | Outcome::NotStarted => Level::Warn,
     }
 }
 
@@ -49,10 +72,10 @@ pub(crate) fn line_of(
     moment: u64,
     way: Way,
     name: &str,
-    event: Event,
+    event: Event<'_>,
 ) -> Result<String, AllocError>
     ensures { IfOk result
-        (λ line. string_bytes line ≡ line_text moment way name.now event) }
+        (λ line. string_bytes line ≡ line_text moment way name.now event.entry) }
 {
     let mut line = moment_of(alloc, moment)?;
     line.push_str(" s  ")?;
@@ -82,15 +105,30 @@ fn moment_of(alloc: Global, moment: u64) -> Result<String, AllocError>
 }
 
 /// Returns an event of a service in words.
-fn words_of(alloc: Global, event: Event) -> Result<String, AllocError>
-    ensures { IfOk result (λ words. string_bytes words ≡ event_text event) }
+fn words_of(alloc: Global, event: Event<'_>) -> Result<String, AllocError>
+    ensures { IfOk result (λ words. string_bytes words ≡ event_text event.entry) }
 {
     match event {
         Event::Started => String::from_str(alloc, "started"),
-        Event::Ended(Outcome::Ok) => String::from_str(alloc, "ok"),
-        Event::Ended(Outcome::Failed(status)) => format!(in alloc; "failed {status}"),
-        Event::Ended(Outcome::TimedOut) => String::from_str(alloc, "timed out"),
-        Event::Ended(Outcome::NotStarted) => String::from_str(alloc, "not started"),
+        Event::Ended(outcome) => outcome_words(alloc, outcome),
+        Event::Saying(outcome, said) => {
+            let mut words = outcome_words(alloc, outcome)?;
+            words.push_str(": ")?;
+            words.push_str(said)?;
+            Ok(words)
+        }
+    }
+}
+
+/// Returns an outcome in words.
+fn outcome_words(alloc: Global, outcome: Outcome) -> Result<String, AllocError>
+    ensures { IfOk result (λ words. string_bytes words ≡ outcome_text outcome) }
+{
+    match outcome {
+        Outcome::Ok => String::from_str(alloc, "ok"),
+        Outcome::Failed(status) => format!(in alloc; "failed {status}"),
+        Outcome::TimedOut => String::from_str(alloc, "timed out"),
+        Outcome::NotStarted => String::from_str(alloc, "not started"),
     }
 }
 

@@ -11,9 +11,10 @@ use crate::copy::{names_of, services_of, words_of};
 use crate::messages::tell;
 use crate::no_log::NoLog;
 use crate::order::{Move, Order, call_to_move, call_to_run};
+use crate::outputs::show_output;
 use crate::progress::Event;
 use crate::run_log::RunLog;
-use crate::start::{end_of, millis_since, start};
+use crate::start::{Output, end_of, millis_since, start};
 use crate::task::Task;
 use log::{Level, Log, log_enabled, warn};
 use rc_board::Gate;
@@ -24,6 +25,7 @@ use rc_names::Kind;
 use rc_script::Process;
 use rc_session::{Command, Session};
 use rc_streams::messages::MESSAGE;
+use rc_streams::output_folder::OutputFolder;
 use rc_streams::process_start::start_of;
 use rc_streams::run_file::RunFile;
 use rc_streams::stop_file::StopFile;
@@ -38,9 +40,10 @@ use std::time::{Clock, Instant};
 /// controller moves a longrun. Nothing is known of what the programs answer.
 ///
 /// A program is started with nothing to read, and its environment says what it is to do. Its output
-/// is discarded, or goes where this program's errors go. The gate waits for the program, but not
-/// for what it leaves behind. A limit is rounded up to whole seconds. When it is reached, the
-/// program gets TERM, and KILL if it has not ended five seconds later.
+/// is discarded, goes where this program's errors go, or is kept in a file of its service. The gate
+/// waits for the program, but not for what it leaves behind. A limit is rounded up to whole
+/// seconds. When it is reached, the program gets TERM, and KILL if it has not ended five seconds
+/// later.
 #[derive(Drop)]
 pub struct ShellGate<'a, R, L> {
     rt: &'a R,
@@ -55,8 +58,10 @@ pub struct ShellGate<'a, R, L> {
     limit: u32,
     /// The log that gets a record for each program that starts, or can't be started.
     log: &'a L,
-    /// Where the output of the programs goes, if anywhere.
+    /// Where the output of the programs is shown, if anywhere.
     errors: Option<Stderr>,
+    /// Where it is kept, if anywhere.
+    outputs: Option<OutputFolder<'a>>,
     /// Where its runs are logged, if anywhere.
     run_log: Option<RunLog<'a>>,
     /// What calls its runs off, if anything may.
@@ -78,6 +83,7 @@ impl<'a, R, L> Model for ShellGate<'a, R, L> {
         limit = g.limit;
       };
       shows = is_some g.errors;
+      outputs = g.outputs;
       log = option_map (λ run_log. run_log.file.now) g.run_log;
       stop = option_map (λ file. file.now) g.stop_file;
     } };
@@ -112,6 +118,7 @@ impl<'a, R: Processes + Clock + Files> ShellGate<'a, R, NoLog> {
             controller,
             limit: 0,
             errors: None,
+            outputs: None,
             run_log: None,
             stop_file: None,
         })
@@ -146,6 +153,7 @@ impl<'a, R: Processes + Clock + Files, L: Log> ShellGate<'a, R, L> {
             limit,
             log: _,
             errors,
+            outputs,
             run_log,
             stop_file,
         } = self;
@@ -160,6 +168,7 @@ impl<'a, R: Processes + Clock + Files, L: Log> ShellGate<'a, R, L> {
             limit,
             log,
             errors,
+            outputs,
             run_log,
             stop_file,
         }
@@ -170,11 +179,26 @@ impl<'a, R: Processes + Clock + Files, L: Log> ShellGate<'a, R, L> {
         ensures { result ≡ record {
           scripts = self.entry.scripts;
           shows = true;
+          outputs = self.entry.outputs;
           log = self.entry.log;
           stop = self.entry.stop;
         } }
     {
         self.errors = Some(errors);
+        self
+    }
+
+    /// Returns this gate with a directory that keeps what each program writes.
+    pub fn with_outputs(mut self, outputs: OutputFolder<'a>) -> ShellGate<'a, R, L>
+        ensures { result ≡ record {
+          scripts = self.entry.scripts;
+          shows = self.entry.shows;
+          outputs = Some outputs.entry;
+          log = self.entry.log;
+          stop = self.entry.stop;
+        } }
+    {
+        self.outputs = Some(outputs);
         self
     }
 
@@ -185,6 +209,7 @@ impl<'a, R: Processes + Clock + Files, L: Log> ShellGate<'a, R, L> {
         ensures { IfOk result (λ gate. gate ≡ record {
           scripts = self.entry.scripts;
           shows = self.entry.shows;
+          outputs = self.entry.outputs;
           log = Some file.now;
           stop = self.entry.stop;
         }) }
@@ -207,6 +232,7 @@ impl<'a, R: Processes + Clock + Files, L: Log> ShellGate<'a, R, L> {
         ensures { result ≡ record {
           scripts = self.entry.scripts;
           shows = self.entry.shows;
+          outputs = self.entry.outputs;
           log = self.entry.log;
           stop = Some file.now;
         } }
@@ -317,18 +343,50 @@ impl<'a, R: Processes + Clock + Files, L: Log> ShellGate<'a, R, L> {
             return Outcome::NotStarted;
         }
         self.tell_start(&task);
-        let started = start(self.rt, &mut command, self.errors);
+        let output = self.output_of(task.name);
+        let started = start(self.rt, &mut command, &output);
         if let Err(error) = &started {
             self.tell_unstarted(task.name, command.get_program(), error);
         }
         drop(command);
-        match started {
+        let outcome = match started {
             Ok(mut child) => {
                 self.note_process(&task, child.id());
                 end_of(self.rt, self.alloc, &mut child, seconds(task.limit))
             }
             Err(_) => Outcome::NotStarted,
+        };
+        self.show(task.name, output);
+        outcome
+    }
+
+    /// Returns what the program of a service writes to: its file if outputs are kept, and the place
+    /// where they are shown otherwise. Warns if its file can't be opened.
+    fn output_of(&self, name: &str) -> Output {
+        if let Some(folder) = self.outputs {
+            match folder.begin(name) {
+                Ok(file) => return Output::Kept(file),
+                Err(error) => self.tell_unkept(folder.path(), name, &error),
+            }
         }
+        match self.errors {
+            Some(errors) => Output::Errors(errors),
+            None => Output::Null,
+        }
+    }
+
+    /// Shows what the program of a service wrote, if that is to be shown and was kept.
+    fn show(&self, name: &str, output: Output) {
+        let is_kept = matches!(&output, Output::Kept(_));
+        drop(output);
+        if let (Some(folder), true) = (self.outputs, is_kept && self.errors.is_some()) {
+            show_output(self.log, self.alloc, folder, name);
+        }
+    }
+
+    /// Reports why what a program writes is not kept.
+    fn tell_unkept(&self, folder: &str, name: &str, error: &io::Error) {
+        warn!(self.log; target: MESSAGE, "{folder}/{name}: {error}: its output is not kept");
     }
 
     /// Notes in the run log which program was started for a task. If this command is killed, the

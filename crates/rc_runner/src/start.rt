@@ -9,6 +9,7 @@ ghost use Rattle.rc_runner.specs.Shell.{MayEnd};
 
 use rc_core::Outcome;
 use std::alloc::{AllocError, Global};
+use std::fs::File;
 use std::io::Stderr;
 use std::os::fd::AsFd;
 use std::process::{Child, Command, ExitStatus, OpenProcess, Processes, Stdio};
@@ -26,6 +27,11 @@ pub(crate) const END: &str = "kill -KILL \"-$0\"";
 
 pub(crate) const END_REST: &str =
     "n=0; while [ $n -lt 50 ] && kill -0 \"-$0\"; do sleep 0.1; n=$((n+1)); done; kill -KILL \"-$0\"";
+
+/// The texts by which a shell asks a program to end that may lead no process group, and ends it.
+pub(crate) const ASK_ONE: &str = "kill -TERM \"-$0\" || kill -TERM \"$0\"";
+
+pub(crate) const END_ONE: &str = "kill -KILL \"-$0\" || kill -KILL \"$0\"";
 
 /// The first and the longest pause while a program is waited for, in microseconds.
 pub(crate) const FIRST_PAUSE: u64 = 50;
@@ -96,29 +102,44 @@ pub(crate) fn add_two(command: &mut Command, one: &str, two: &str) -> Result<(),
     Ok(())
 }
 
-/// Starts a program. It reads nothing, and its output goes to `errors`, if that is open. With a
-/// pipe, a child that it leaves behind would have to be waited for.
+/// What a program writes to.
+#[derive(Drop)]
+pub(crate) enum Output {
+    /// Nothing: its output is discarded.
+    Null,
+    /// The errors of this program.
+    Errors(Stderr),
+    /// A file.
+    Kept(File),
+}
+
+/// Starts a program. It reads nothing, and both its streams go to `output`. With a pipe, a child
+/// that it leaves behind would have to be waited for.
 pub(crate) fn start<R: Processes>(
     rt: &R,
     command: &mut Command,
-    errors: Option<Stderr>,
+    output: &Output,
 ) -> io::Result<Child<R::Started>> {
     command
         .stdin(Stdio::null())
-        .stdout(stream_to(errors))
-        .stderr(stream_to(errors));
+        .stdout(stream_to(output))
+        .stderr(stream_to(output));
     command.spawn(rt)
 }
 
-/// Returns the stream to which a program writes: a copy of `errors`, or the null device if there is
-/// no such copy.
-fn stream_to(errors: Option<Stderr>) -> Stdio {
-    let Some(errors) = errors else {
-        return Stdio::null();
-    };
-    match errors.as_fd().try_clone_to_owned() {
-        Ok(open) => Stdio::from(open),
-        Err(_) => Stdio::null(),
+/// Returns the stream to which a program writes: a copy of that of `output`, or the null device if
+/// there is no such copy.
+fn stream_to(output: &Output) -> Stdio {
+    match output {
+        Output::Null => Stdio::null(),
+        Output::Errors(errors) => match errors.as_fd().try_clone_to_owned() {
+            Ok(open) => Stdio::from(open),
+            Err(_) => Stdio::null(),
+        },
+        Output::Kept(file) => match file.try_clone() {
+            Ok(open) => Stdio::from(open),
+            Err(_) => Stdio::null(),
+        },
     }
 }
 

@@ -4,7 +4,7 @@ ghost use Rattle.std.specs.Prelude.{◌≡◌, ◌<◌, ◌-◌, ◌^◌, IfOk};
 
 use crate::copy::names_of;
 use crate::messages::tell;
-use crate::progress::Event;
+use crate::outputs::{event_for, last_line, says_more};
 use crate::start::millis_since;
 use log::{Level, Log, log_enabled};
 use rc_board::Gate;
@@ -13,12 +13,14 @@ use rc_db::{Db, NoMem};
 use rc_graph::Way;
 use rc_session::{Command, Session};
 use rc_streams::messages::MESSAGE;
+use rc_streams::output_folder::OutputFolder;
 use std::alloc::Global;
 use std::marker::Model;
 use std::time::Instant;
 
 /// A gate that answers as another does, and logs each outcome: the moment by the clock of that
-/// gate, the way, the name of the service, and how its transition ended.
+/// gate, the way, the name of the service, and how its transition ended. The line of a failure ends
+/// with what the program wrote last, if that is kept.
 #[derive(Drop)]
 pub struct Telling<'a, L, G> {
     rt: &'a HostRuntime,
@@ -27,6 +29,8 @@ pub struct Telling<'a, L, G> {
     /// The names of the services whose outcomes are logged: all, or none.
     names: Vec<String>,
     inner: G,
+    /// Where the output of the programs is kept, if anywhere.
+    outputs: Option<OutputFolder<'a>>,
     /// When it was made, where the clock could be read.
     start: Option<Instant>,
 }
@@ -45,6 +49,7 @@ impl<'a, L: Log, G: Drop> Telling<'a, L, G> {
         alloc: Global,
         db: &Db,
         inner: G,
+        outputs: Option<OutputFolder<'a>>,
     ) -> Result<Telling<'a, L, G>, NoMem>
         ensures { IfOk result (λ telling. telling ≡ inner) }
     {
@@ -56,6 +61,7 @@ impl<'a, L: Log, G: Drop> Telling<'a, L, G> {
                 alloc,
                 names,
                 inner,
+                outputs,
                 start: None,
             });
         }
@@ -66,6 +72,7 @@ impl<'a, L: Log, G: Drop> Telling<'a, L, G> {
                 alloc,
                 names,
                 inner,
+                outputs,
                 start: Instant::now(rt).ok(),
             }),
             Err(fault) => {
@@ -81,9 +88,22 @@ impl<'a, L: Log, G: Drop> Telling<'a, L, G> {
         if let Some(name) = self.names.get(service as usize) {
             let past = millis_since(self.rt, self.start).unwrap_or(0);
             let moment = shown_moment(now, past);
-            let event = Event::Ended(outcome);
+            let said = self.said_last(name.as_str(), outcome);
+            let event = event_for(outcome, said.as_deref());
             tell(self.log, self.alloc, moment, way, name.as_str(), event);
+            drop(said);
         }
+    }
+}
+
+impl<'a, L: Log, G> Telling<'a, L, G> {
+    /// Returns what the program of a service wrote last, if the report of this outcome ends with
+    /// that.
+    fn said_last(&self, name: &str, outcome: Outcome) -> Option<String> {
+        if !says_more(outcome) {
+            return None;
+        }
+        last_line(self.alloc, self.outputs, name)
     }
 }
 
