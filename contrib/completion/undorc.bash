@@ -38,7 +38,7 @@ _undorc_run() {
 # Reads what the help of a command has: its options into `options`, what a value of each is called
 # into `values`, and the queries, which `db` alone has, into `queries`.
 _undorc_read() {
-    local line flag='^  (-[[:alpha:]])  ' value='^  (-[[:alpha:]]) <([A-Z]+)>'
+    local line flag='^  (-[[:alpha:]])  ' value='^ +(-[[:alpha:]]|--[[:alpha:]]+) <([A-Z]+)>'
     options=() values=() queries=()
     while IFS= read -r line; do
         if [[ $line =~ $value ]]; then

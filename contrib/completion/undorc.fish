@@ -99,8 +99,10 @@ function __undorc_option -a command letter value about
         case '*'
             set takes -x
     end
-    test -n "$value"; and set -g -a __undorc_valued $command-$letter
-    complete -c undorc -n "__undorc_is $command" -s $letter $takes -d $about
+    test -n "$value"; and set -g -a __undorc_valued $command-$letter $command--$letter
+    set -l is -s
+    test (string length -- $letter) -eq 1; or set is -l
+    complete -c undorc -n "__undorc_is $command" $is $letter $takes -d $about
 end
 
 # Offers what the help of a command has.
@@ -108,6 +110,8 @@ function __undorc_offer -a command
     for line in (undorc $command -h 2>&1 </dev/null)
         set -l option
         if set option (string match -r -- '^  -([A-Za-z]) <([A-Z]+)> +(.*)$' $line)
+            __undorc_option $command $option[2] $option[3] $option[4]
+        else if set option (string match -r -- '^ +--([a-z]+) <([A-Z]+)> +(.*)$' $line)
             __undorc_option $command $option[2] $option[3] $option[4]
         else if set option (string match -r -- '^  -([A-Za-z])  +(.*)$' $line)
             __undorc_option $command $option[2] '' $option[3]

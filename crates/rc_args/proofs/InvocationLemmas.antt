@@ -1,17 +1,22 @@
 -- What the words ask, by the matches that `clap` makes of them.
-use Rattle.std.proofs.Common.{◌≡◌, ◌∙◌, Bool, List, IfSome, Option, None, Some}
+use Rattle.std.proofs.Common.{◌≡◌, ◌≢◌, ◌∙◌, Bool, List, IfErr, IfSome, OnErr, Option, None, Some}
+use Rattle.std.proofs.Common.{Result, Ok, Err, inr}
 use Rattle.std.proofs.Common.{false, true, if◌then◌else◌, refl, ap, sym, subst, codes}
 use Rattle.std.proofs.lemmas.Slice.Eq.{bytes_eq-Decides}
 use Rattle.std.specs.Str.{bytes_eq}
 use Rattle.clap.specs.Words.{Row, Text}
 use Rattle.rc_args.specs.Words.{rows_for, rows_named}
 use Rattle.rc_args.specs.CommandWords.{Meaning}
+use Rattle.rc_args.specs.Defaults.{DefaultsAsk}
 use Rattle.rc_args.specs.OnceAsked.{OnceAsk}
 use Rattle.rc_args.specs.Invocation.{InvokesEntered, InvokesMeant, InvokesNothing, Invokes}
 use Rattle.rc_args.specs.Invocation.{OfCheck, OfCompile, OfDb, OfOnce, OfPlan, OfReplay, OfRestart}
 use Rattle.rc_args.specs.Invocation.{OfSeal}
 use Rattle.rc_args.specs.Invocation.{OfSession, OfStatus, OfCancel, OfUpdate, OfVersion}
-use Rattle.rc_args.specs.Invocation.{InvocationAsk}
+use Rattle.rc_args.specs.Invocation.{InvocationAsk, IsUsageFault, LacksItsFile, invocation_by}
+use Rattle.rc_args.specs.Invocation.{wanted_files}
+use Rattle.rc_args.specs.declared.asked.WordsFault.{WordsFault}
+use Rattle.rc_args.specs.declared.asked.WordsFault.TheVariants.{Memory}
 
 -- the command that was entered has its matches, and is the one that has them
 named_self : (name : Text) (rows : List Row) → rows_named name (Some (name, rows)) ≡ Some rows
@@ -96,6 +101,16 @@ others_none meaning rows compile db plan replay session update restart seal stat
       | OfSeal ask file ↦ λ asks. seal asks.0
       | OfStatus ask file ↦ λ asks. status asks.0
       | OfCheck ask file ↦ λ asks. check asks.0
-      | OfCancel file ↦ λ asks. cancel asks.0
+      | OfCancel kills file ↦ λ asks. cancel asks.0
       | OfVersion ↦ λ asks. version asks.0
     ]
+
+-- a command that lacks a file which it needs is refused as one
+pub lacking_is_usage : {X : Type 0} (result : Result X WordsFault) (defaults : DefaultsAsk)
+    (words : List Text) (said : InvocationAsk) → Invokes words said
+    → OnErr result (LacksItsFile (invocation_by defaults said))
+    → IfErr result (λ fault. fault ≡ wanted_files (invocation_by defaults said))
+    → IfErr result (λ fault. fault ≢ Memory → IsUsageFault defaults words fault)
+lacking_is_usage (Ok x) defaults words said asked lacks is = tt
+lacking_is_usage (Err fault) defaults words said asked lacks is =
+    λ other. inr (said, asked, lacks, is)

@@ -17,11 +17,13 @@ use Rattle.std.specs.Option.{option_map_or}
 use Rattle.rc_args.specs.Commands.{Reads, altering_program, asking_program, bare, bare_program}
 use Rattle.rc_args.specs.Commands.{change_command, changing_program, check_command}
 use Rattle.rc_args.specs.Commands.{compile_command, db_command}
-use Rattle.rc_args.specs.Commands.{flag, new_option, option, repeated, plan_command, program}
+use Rattle.rc_args.specs.Commands.{flag, long_option, new_option, option, repeated}
+use Rattle.rc_args.specs.Commands.{plan_command, program}
 use Rattle.rc_args.specs.Commands.{edit_command, journal_command, list_command, restart_command}
 use Rattle.rc_args.specs.Commands.{status_command, query_word, replay_command, session_command}
 use Rattle.rc_args.specs.Commands.{show_command, source_list, start_command, step_command}
-use Rattle.rc_args.specs.Commands.{cancel_command, stop_command, update_command, with_arg}
+use Rattle.rc_args.specs.Commands.{cancel_command, stop_command, undo_command}
+use Rattle.rc_args.specs.Commands.{update_command, with_arg}
 use Rattle.rc_args.specs.Commands.{with_command, word_list}
 use Rattle.rc_args.specs.Words.{has_fault, is_on, rows_for, rows_named, values_in, words_in}
 
@@ -37,7 +39,7 @@ unfolding program altering_program changing_program asking_program bare with_arg
     replay_command session_command change_command start_command stop_command step_command
     cancel_command edit_command
     restart_command status_command check_command show_command list_command journal_command
-    bare_program update_command new_option
+    bare_program undo_command update_command new_option long_option
 program_is_plain = refl
 
 program_is_simple : is_simple_and_free program ≡ true
@@ -46,7 +48,7 @@ unfolding program altering_program changing_program asking_program bare with_arg
     replay_command session_command change_command start_command stop_command step_command
     cancel_command edit_command
     restart_command status_command check_command show_command list_command journal_command
-    bare_program update_command new_option
+    bare_program undo_command update_command new_option long_option
 program_is_simple = refl
 
 -- what the matches hold is what the words ask for

@@ -5,12 +5,14 @@ use Rattle.rc_args.specs.Programs.{ByPrograms, ByTable, MakingAsk}
 use Rattle.rc_args.specs.SessionAsked.{SessionAsk}
 use Rattle.rc_args.specs.declared.defaults.Defaults.{Defaults}
 
--- the files of `-b` and `-l`, and the programs of `-r` and `-c`, where the words name none
+-- the files of `-b` and `-l`, the programs of `-r` and `-c`, and the directory of `-o`, where the
+-- words name none
 pub record DefaultsAsk : Type 0 where
   pub base : Option Text
   pub live : Option Text
   pub runner : Option Text
   pub controller : Option Text
+  pub output : Option Text
 
 -- those that a value of the program names
 abbrev pub defaults_ask_of : Defaults → DefaultsAsk
@@ -19,6 +21,7 @@ defaults_ask_of defaults = record {
   live = option_map (λ t. t.now) defaults.live;
   runner = option_map (λ t. t.now) defaults.runner;
   controller = option_map (λ t. t.now) defaults.controller;
+  output = option_map (λ t. t.now) defaults.output;
 }
 
 -- what is named, or where nothing is the default
@@ -39,9 +42,15 @@ abbrev pub default_live : DefaultsAsk → MakingAsk → Option Text
 default_live defaults (ByTable failing) = None
 default_live defaults (ByPrograms runner controller limit) = defaults.live
 
+-- the default directory of outputs: none where nothing is started
+abbrev pub default_output : DefaultsAsk → MakingAsk → Option Text
+default_output defaults (ByTable failing) = None
+default_output defaults (ByPrograms runner controller limit) = defaults.output
+
 -- the same session, with these where nothing is named
 abbrev pub session_by : DefaultsAsk → SessionAsk → SessionAsk
 session_by defaults ask = record ask {
   making = making_by defaults ask.making;
   live = first_named ask.live (default_live defaults ask.making);
+  output = first_named ask.output (default_output defaults ask.making);
 }

@@ -1,5 +1,6 @@
 -- What the words ask, of whichever command.
-use Rattle.std.specs.Prelude.{◌≡◌, ◌⊎◌, List, Option, None, Some, codes, false, option_map}
+use Rattle.std.specs.Prelude.{◌≡◌, ◌⊎◌, ℕ, Bool, List, Option, None, Some, codes, false}
+use Rattle.std.specs.Prelude.{option_map}
 use Rattle.std.specs.Borrow.{Bor}
 use Rattle.clap.specs.Words.{Row, Text, first_of}
 use Rattle.rc_model.specs.Plan.{Ask}
@@ -36,7 +37,7 @@ pub data InvocationAsk : Type 0 where
   OfSeal : SessionAsk → Option Text → InvocationAsk
   OfStatus : NamedAsk → Option Text → InvocationAsk
   OfCheck : NamedAsk → Option Text → InvocationAsk
-  OfCancel : Option Text → InvocationAsk
+  OfCancel : (kills : Bool) → Option Text → InvocationAsk
   OfVersion : InvocationAsk
 
 -- the command that is asked
@@ -52,7 +53,7 @@ command_of (OfRestart ask file) = codes "restart"
 command_of (OfSeal ask file) = codes "seal"
 command_of (OfStatus ask file) = codes "status"
 command_of (OfCheck ask file) = codes "check"
-command_of (OfCancel file) = codes "cancel"
+command_of (OfCancel kills file) = codes "cancel"
 command_of OfVersion = codes "version"
 
 -- the file of `-b` in the matches of a command
@@ -73,7 +74,8 @@ InvokesIn flag rows (OfRestart ask file) =
 InvokesIn flag rows (OfSeal ask file) = AsksSessionIn rows ask × (file ≡ file_in rows)
 InvokesIn flag rows (OfStatus ask file) = AsksNamesIn rows ask × (file ≡ file_in rows)
 InvokesIn flag rows (OfCheck ask file) = AsksNamesIn rows ask × (file ≡ file_in rows)
-InvokesIn flag rows (OfCancel file) = file ≡ first_of (codes "live") rows
+InvokesIn flag rows (OfCancel kills file) =
+    (kills ≡ is_on (codes "kill") rows) × (file ≡ first_of (codes "live") rows)
 InvokesIn flag rows OfVersion = Unit {0}
 
 -- the matches of this command ask this, with the flag that counts as given
@@ -131,7 +133,7 @@ invocation_ask_of (invocation.Db request file) = OfDb (db_ask_of request) (path_
 invocation_ask_of (invocation.Plan request file) = OfPlan (ask_of request) (path_text file)
 invocation_ask_of (invocation.Replay file) = OfReplay (path_text file)
 invocation_ask_of (invocation.Session command file) = on_session command (path_text file)
-invocation_ask_of (invocation.Cancel file) = OfCancel (path_text file)
+invocation_ask_of (invocation.Cancel kills file) = OfCancel kills (path_text file)
 invocation_ask_of invocation.Version = OfVersion
 
 -- the same, with these where nothing is named
@@ -159,30 +161,41 @@ invocation_by defaults (OfStatus ask file) =
 invocation_by defaults (OfCheck ask file) =
     OfCheck (record ask { session = session_by defaults ask.session })
     (first_named file defaults.base)
-invocation_by defaults (OfCancel file) = OfCancel (first_named file defaults.live)
+invocation_by defaults (OfCancel kills file) =
+    OfCancel kills (first_named file defaults.live)
 invocation_by defaults OfVersion = OfVersion
 
 -- one of two files is not named
 abbrev pub LacksOne : (base live : Option Text) → Type 0
 LacksOne base live = (base ≡ None) ⊎ (live ≡ None)
 
+-- a file that a line needs is not named: that of the session, or to go back to a state one of both
+abbrev pub LacksForLine : (to : Option ℕ) → OnceAsk → (base : Option Text) → Type 0
+LacksForLine None ask base = LacksFile ask
+LacksForLine (Some state) ask base = LacksOne base ask.session.live
+
 -- a file that the command needs is not named: of a session of one line that of the session; of an
 -- update, a restart, a seal, a status and a check one of both; of `cancel` that of the session
 abbrev pub LacksItsFile : InvocationAsk → Type 0
-LacksItsFile (OfOnce ask file) = LacksFile ask
+LacksItsFile (OfOnce ask file) = LacksForLine ask.to ask file
 LacksItsFile (OfUpdate ask file) = LacksOne file ask.session.live
 LacksItsFile (OfRestart ask file) = LacksOne file ask.session.live
 LacksItsFile (OfSeal ask file) = LacksOne file ask.live
 LacksItsFile (OfStatus ask file) = LacksOne file ask.session.live
 LacksItsFile (OfCheck ask file) = LacksOne file ask.session.live
-LacksItsFile (OfCancel file) = file ≡ None
+LacksItsFile (OfCancel kills file) = file ≡ None
 LacksItsFile other = ⊥
+
+-- why a line is refused that lacks a file
+abbrev pub wanted_by : (to : Option ℕ) → WordsFault
+wanted_by None = NoFile
+wanted_by (Some state) = Both
 
 -- why a command is refused that lacks its file: the files that it wants
 abbrev pub wanted_files : InvocationAsk → WordsFault
-wanted_files (OfOnce ask file) = NoFile
+wanted_files (OfOnce ask file) = wanted_by ask.to
 wanted_files (OfUpdate ask file) = Files
-wanted_files (OfCancel file) = Session
+wanted_files (OfCancel kills file) = Session
 wanted_files other = Both
 
 -- the words ask this by these defaults, and each file that its command needs is named

@@ -1,5 +1,5 @@
--- The numbers of milliseconds among the words.
-use Rattle.std.specs.Prelude.{◌≡◌, ◌<◌, ◌^◌, ℕ, Option, None, Some}
+-- The numbers of milliseconds among the words, and that of a state.
+use Rattle.std.specs.Prelude.{◌≡◌, ◌<◌, ◌^◌, ℕ, Bool, false, Option, None, Some}
 use Rattle.std.specs.Str.Parse.{IsNumeral, digits_value, without_leading_plus}
 use Rattle.clap.specs.Words.{Text}
 
@@ -18,3 +18,10 @@ IsLimitIn (Some text) limit = SpellsLimit text limit
 abbrev pub IsRunLimitIn : Option Text → ℕ → Type 0
 IsRunLimitIn None limit = limit ≡ 4294967295
 IsRunLimitIn (Some text) limit = SpellsLimit text limit
+
+-- the state that is given, if one is: a number, which is spelled as one of milliseconds, where what
+-- would move is not only to be shown
+abbrev pub IsStateIn : Option Text → (dry : Bool) → Option ℕ → Type 0
+IsStateIn None dry to = to ≡ None
+IsStateIn (Some text) dry to =
+    (dry ≡ false) × ((state : ℕ) × SpellsLimit text state × (to ≡ Some state))

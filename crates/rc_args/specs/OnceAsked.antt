@@ -1,6 +1,6 @@
 -- What the words ask of a session of one line.
-use Rattle.std.specs.Prelude.{◌≡◌, ◌≢◌, ◌∷◌, ℕ, Bool, true, false, List, [], None, Some, All}
-use Rattle.std.specs.Prelude.{Contains}
+use Rattle.std.specs.Prelude.{◌≡◌, ◌≢◌, ◌∷◌, ℕ, Bool, true, false, List, [], Option, None, Some}
+use Rattle.std.specs.Prelude.{All, Contains}
 use Rattle.std.specs.Prelude.{codes, map, string_bytes}
 use Rattle.clap.specs.Words.{Row, Text, first_of}
 use Rattle.rc_model.specs.Names.{IsName}
@@ -10,7 +10,7 @@ use Rattle.rc_script.specs.Says.{Saying, SaysBundles, SaysDry, SaysJournal, Says
 use Rattle.rc_script.specs.Says.{SaysStep, SaysWrong, saying_of}
 use Rattle.rc_args.specs.Words.{is_on, words_in}
 use Rattle.rc_args.specs.Asked.{ask_with}
-use Rattle.rc_args.specs.Limits.{IsRunLimitIn}
+use Rattle.rc_args.specs.Limits.{IsRunLimitIn, IsStateIn}
 use Rattle.rc_args.specs.SessionAsked.{AsksSessionIn, SessionAsk, Starts, session_ask_of}
 use Rattle.rc_args.specs.declared.once_words.Once.{Once}
 use Rattle.rc_args.specs.declared.once_words.Once.TheVariants as once
@@ -25,9 +25,11 @@ pub data OnceSaying : Type 0 where
   WantsDryRestart : (names : List Text) → OnceSaying
   WantsDown : OnceSaying
 
--- what is asked of a session of one line: what that is to do, and what is asked of the session
+-- what is asked of a session of one line: what that is to do, the state to which it goes back by
+-- one undo after the other, if one is named, and what is asked of the session
 pub record OnceAsk : Type 0 where
   pub what : OnceSaying
+  pub to : Option ℕ
   pub session : SessionAsk
 
 -- it shows what would move
@@ -108,6 +110,10 @@ AsksWhatIn flag rows WantsDown = is_on (codes "down") rows ≡ true
 abbrev pub AsksWhat : (name flag : Text) → List Row → OnceSaying → Type 0
 AsksWhat name flag rows what = (name ≡ once_command what) × AsksWhatIn flag rows what
 
+-- the matches name this state to go back to, or none
+abbrev pub AsksStateIn : List Row → Option ℕ → Type 0
+AsksStateIn rows to = IsStateIn (first_of (codes "to") rows) (is_on (codes "dry") rows) to
+
 -- the word that entered the command gives it a flag, and wants names, but none is named: a slip is
 -- not to move what nobody named
 abbrev pub LacksNames : (flag : Text) → List Row → Type 0
@@ -124,8 +130,8 @@ AreOneLine words = All IsOneLine words
 -- the matches ask this of a session of one line, where this flag counts as given
 abbrev pub AsksOnceIn : (flag : Text) → List Row → OnceAsk → Type 0
 AsksOnceIn flag rows ask =
-    AsksWhatIn flag rows ask.what × AsksSessionIn rows ask.session × AreOneLine (words_in rows)
-    × (LacksNames flag rows → ⊥)
+    AsksWhatIn flag rows ask.what × AsksStateIn rows ask.to × AsksSessionIn rows ask.session
+    × AreOneLine (words_in rows) × (LacksNames flag rows → ⊥)
 
 -- what one line is to do, as the program has it
 abbrev pub once_saying_of : Once → OnceSaying
@@ -139,5 +145,6 @@ once_saying_of once.Down = WantsDown
 abbrev pub once_ask_of : OnceRequest → OnceAsk
 once_ask_of request = record {
   what = once_saying_of request.once;
+  to = request.to;
   session = session_ask_of request.session;
 }

@@ -12,7 +12,8 @@ use Rattle.rc_args.specs.declared.verbosity.Verbosity.{Verbosity}
 
 -- what is asked of a session: how many workers it has, how transitions are made, which of them are
 -- reported, how many states a new one has at most, the file that it goes on with and is kept in, if
--- one is named, and whether that is waited for where another program holds it
+-- one is named, whether that is waited for where another program holds it, and the directory that
+-- keeps what scripts write, if one is named
 pub record SessionAsk : Type 0 where
   pub workers : ℕ
   pub making : MakingAsk
@@ -20,6 +21,7 @@ pub record SessionAsk : Type 0 where
   pub bound : ℕ
   pub live : Option Text
   pub waits : Bool
+  pub output : Option Text
 
 -- the text of a number of workers, from 1 to 64: digits, before which a plus may stand
 abbrev pub SpellsCrew : Text → ℕ → Type 0
@@ -43,7 +45,7 @@ IsBoundIn None bound = bound ≡ 1024
 IsBoundIn (Some text) bound = SpellsBound text bound
 
 -- the matches are those of this number of workers, of transitions that are made so, of which these
--- are reported, of this bound and of this file, waited for or not
+-- are reported, of this bound, of this file, waited for or not, and of this directory
 pub record AsksOptionsIn (rows : List Row) (reported : Verbosity) (ask : SessionAsk) : Type 0 where
   pub workers : IsCrewIn (first_of (codes "workers") rows) ask.workers
   pub making : MakesIn rows ask.making
@@ -51,6 +53,7 @@ pub record AsksOptionsIn (rows : List Row) (reported : Verbosity) (ask : Session
   pub bound : IsBoundIn (first_of (codes "bound") rows) ask.bound
   pub live : ask.live ≡ first_of (codes "live") rows
   pub waits : ask.waits ≡ is_on (codes "wait") rows
+  pub output : ask.output ≡ first_of (codes "output") rows
 
 -- the matches of `session` ask this
 abbrev pub AsksLinesIn : List Row → SessionAsk → Type 0
@@ -73,4 +76,5 @@ session_ask_of request = record {
   bound = request.bound;
   live = option_map (λ f. f.now) request.live;
   waits = request.waits;
+  output = option_map (λ f. f.now) request.output;
 }

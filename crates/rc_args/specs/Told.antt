@@ -4,11 +4,11 @@ use Rattle.std.specs.List.{fold}
 use Rattle.clap.specs.Lexer.{usize_max}
 use Rattle.clap.specs.Words.{App, Rule, Text, new_rule}
 use Rattle.clap.specs.declared.builder.ArgAction.TheVariants.{Append}
-use Rattle.rc_args.specs.Commands.{bare, flag, option, query_word, repeated}
+use Rattle.rc_args.specs.Commands.{bare, flag, long_option, option, query_word, repeated}
 use Rattle.rc_args.specs.Commands.{with_arg, with_command}
 use Rattle.rc_args.specs.declared.cmdline.told.ToldArg.{ToldArg}
 use Rattle.rc_args.specs.declared.cmdline.told.ToldArg.TheVariants.{Flag, Valued, Needed, Repeated}
-use Rattle.rc_args.specs.declared.cmdline.told.ToldArg.TheVariants.{Query, Words}
+use Rattle.rc_args.specs.declared.cmdline.told.ToldArg.TheVariants.{Long, Query, Words}
 use Rattle.rc_args.specs.declared.cmdline.told.ToldCommand.{ToldCommand}
 
 -- words, so many at least
@@ -26,6 +26,7 @@ told_rule (Flag id letter help) = flag id.now letter
 told_rule (Valued id letter value help) = option id.now letter
 told_rule (Needed id letter value help) = record (option id.now letter) { required = true }
 told_rule (Repeated id letter value help) = repeated id.now letter
+told_rule (Long id value help) = long_option id.now
 told_rule Query = query_word
 told_rule (Words least name help) = listed least
 

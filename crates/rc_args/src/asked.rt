@@ -53,6 +53,10 @@ pub enum WordsFault {
     Bound,
     /// Their limit is no number of milliseconds.
     Limit,
+    /// The state to which they go back is no number.
+    State,
+    /// They go back to a state, and that is to be shown alone.
+    Shown,
     /// Their list of transitions that fail has not the form of one.
     List,
     Memory,
@@ -187,6 +191,8 @@ fn words_of(fault: &WordsFault) -> &'static str {
         WordsFault::Workers => "-w wants a number from 1 to 64",
         WordsFault::Bound => "-n wants a number from 3 to 4294967295",
         WordsFault::Limit => "-t and -T want a number from 0 to 4294967295",
+        WordsFault::State => "--to wants a number from 0 to 4294967295",
+        WordsFault::Shown => "--to and -n exclude each other",
         WordsFault::List => "-x wants `none`, or `up:NAME` and `down:NAME` joined by commas",
         WordsFault::Memory => "out of memory",
     }

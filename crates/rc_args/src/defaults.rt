@@ -1,14 +1,16 @@
-//! The files and programs that a command uses where its arguments name none.
+//! The files, programs and the directory that a command uses where its arguments name none.
 ghost use Rattle.std.specs.Prelude.{◌≡◌, option_map};
 ghost use Rattle.rc_args.specs.Defaults.{first_named};
 
-/// The files of `-b` and `-l`, and the programs of `-r` and `-c`, where the words name none.
+/// The files of `-b` and `-l`, the programs of `-r` and `-c`, and the directory of `-o`, where the
+/// words name none.
 #[derive(Clone, Copy)]
 pub struct Defaults<'a> {
     pub base: Option<&'a str>,
     pub live: Option<&'a str>,
     pub runner: Option<&'a str>,
     pub controller: Option<&'a str>,
+    pub output: Option<&'a str>,
 }
 
 /// Returns the named value, or the default if none is named.

@@ -41,8 +41,9 @@ pub enum Invocation<'a> {
     Replay(Option<&'a str>),
     /// A command on the file of a session, and the file of its database.
     Session(SessionCommand<'a>, Option<&'a str>),
-    /// Calls off the command that goes on with the session of this file.
-    Cancel(Option<&'a str>),
+    /// Calls off the command that goes on with the session of this file. If the flag is given, ends
+    /// its scripts, too.
+    Cancel(bool, Option<&'a str>),
     /// The version of the program.
     Version,
 }
@@ -127,7 +128,10 @@ fn invocation_meant<'a>(
         "db" => return Ok(Invocation::Db(db_in(alloc, matches)?, base)),
         "plan" => return Ok(Invocation::Plan(plan_in(alloc, matches, "")?, base)),
         "replay" => return Ok(Invocation::Replay(base)),
-        "cancel" => return Ok(Invocation::Cancel(text_in(matches, "live"))),
+        "cancel" => {
+            let kills = is_on(matches, "kill");
+            return Ok(Invocation::Cancel(kills, text_in(matches, "live")));
+        }
         "version" => return Ok(Invocation::Version),
         "session" => SessionCommand::Lines(lines_in(alloc, matches)?),
         "update" => SessionCommand::Update(update_in(alloc, matches)?),
@@ -198,7 +202,9 @@ impl<'a> Invocation<'a> {
                 let file = named_or(file, defaults.base);
                 Invocation::Session(command.with_defaults(defaults), file)
             }
-            Invocation::Cancel(file) => Invocation::Cancel(named_or(file, defaults.live)),
+            Invocation::Cancel(kills, file) => {
+                Invocation::Cancel(kills, named_or(file, defaults.live))
+            }
             other => other,
         }
     }
@@ -209,7 +215,7 @@ impl<'a> Invocation<'a> {
     {
         match self {
             Invocation::Session(command, file) => command.lacks_its_file(*file),
-            Invocation::Cancel(file) => file.is_none(),
+            Invocation::Cancel(_, file) => file.is_none(),
             _ => false,
         }
     }
@@ -220,7 +226,7 @@ impl<'a> Invocation<'a> {
     {
         match self {
             Invocation::Session(command, _) => command.wanted_files(),
-            Invocation::Cancel(_) => WordsFault::Session,
+            Invocation::Cancel(_, _) => WordsFault::Session,
             _ => WordsFault::Both,
         }
     }

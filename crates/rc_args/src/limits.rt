@@ -1,6 +1,9 @@
-//! Numbers of milliseconds among the words.
-ghost use Rattle.std.specs.Prelude.{ℕ, option_map, IfNone, IfSome};
-ghost use Rattle.rc_args.specs.Limits.{IsLimitIn, IsRunLimitIn, SpellsLimit};
+//! Numbers of milliseconds among the words, and that of a state.
+ghost use Rattle.std.specs.Prelude.{◌≢◌, ℕ, Option, option_map, IfErr, IfNone, IfOk, IfSome};
+ghost use Rattle.rc_args.specs.Limits.{IsLimitIn, IsRunLimitIn, IsStateIn, SpellsLimit};
+ghost use Rattle.rc_args.specs.declared.asked.WordsFault.TheVariants.{Memory};
+
+use crate::asked::WordsFault;
 
 /// Parses the limit of a run. Returns the greatest limit if none is given, and `None` if the text
 /// is no limit.
@@ -12,7 +15,7 @@ pub(crate) fn run_limit_of(given: Option<&str>) -> Option<u32>
 {
     match given {
         None => Some(u32::MAX),
-        Some(text) => millis_of(text),
+        Some(text) => number_of(text),
     }
 }
 
@@ -25,13 +28,32 @@ pub(crate) fn limit_of(given: Option<&str>) -> Option<u32>
         IsLimitIn (option_map (λ text. text.now) given.entry) limit → ⊥) }
 {
     match given {
-        Some(text) => millis_of(text),
+        Some(text) => number_of(text),
         None => Some(0),
     }
 }
 
-// Returns the number of milliseconds that a text spells, or `None` if it spells none.
-fn millis_of(text: &str) -> Option<u32>
+/// Parses the state to which an undo goes back, if one is given. Fails if the text is no number, or
+/// if what would move is only to be shown.
+pub(crate) fn state_of(given: Option<&str>, is_dry: bool) -> Result<Option<u32>, WordsFault>
+    ensures asked { IfOk result (IsStateIn (option_map (λ text. text.now) given.entry) is_dry) }
+    ensures wrong { IfErr result (λ fault. fault ≢ Memory → (to : Option ℕ) →
+        IsStateIn (option_map (λ text. text.now) given.entry) is_dry to → ⊥) }
+{
+    let Some(text) = given else {
+        return Ok(None);
+    };
+    if is_dry {
+        return Err(WordsFault::Shown);
+    }
+    match number_of(text) {
+        Some(state) => Ok(Some(state)),
+        None => Err(WordsFault::State),
+    }
+}
+
+// Returns the number that a text spells, or `None` if it spells none.
+fn number_of(text: &str) -> Option<u32>
     ensures some { IfSome result (λ limit. SpellsLimit text.now limit) }
     ensures none { IfNone result ((limit : ℕ) → SpellsLimit text.now limit → ⊥) }
 {

@@ -24,6 +24,8 @@ pub struct NamedRequest<'a> {
     pub names: Vec<String>,
     /// Whether nothing but failures is shown.
     pub failed: bool,
+    /// Whether services are brought where the session says.
+    pub repairs: bool,
 }
 
 impl<'a> NamedRequest<'a> {
@@ -38,11 +40,13 @@ impl<'a> NamedRequest<'a> {
             session,
             names,
             failed,
+            repairs,
         } = self;
         NamedRequest {
             session: session.with_defaults(defaults),
             names,
             failed,
+            repairs,
         }
     }
 }
@@ -66,5 +70,6 @@ pub(crate) fn named_in<'a>(
         session,
         names,
         failed: is_on(matches, "failed"),
+        repairs: is_on(matches, "repair"),
     })
 }

@@ -1,11 +1,11 @@
 //! The arguments of a session of one line.
-ghost use Rattle.std.specs.Prelude.{◌≡◌, ◌≢◌, ◌↔◌, [], codes, map, All, IfErr, IfOk};
-ghost use Rattle.std.specs.Prelude.{IsTrue};
+ghost use Rattle.std.specs.Prelude.{◌≡◌, ◌≢◌, ◌↔◌, ℕ, [], codes, map, All, IfErr, IfOk};
+ghost use Rattle.std.specs.Prelude.{IsTrue, Option};
 ghost use Rattle.clap.specs.Words.{Text, found_of, rows_of};
 ghost use Rattle.rc_args.specs.Defaults.{session_by, defaults_ask_of};
 ghost use Rattle.rc_args.specs.OnceAsked.{AreOneLine, IsOneLine, IsShown, LacksFile, LacksNames};
 ghost use Rattle.rc_args.specs.Words.{words_in as words_rows};
-ghost use Rattle.rc_args.specs.OnceAsked.{Adds, AsksOnceIn, AsksWhat, OnceAsk};
+ghost use Rattle.rc_args.specs.OnceAsked.{Adds, AsksOnceIn, AsksStateIn, AsksWhat, OnceAsk};
 ghost use Rattle.rc_args.specs.OnceAsked.{OnceSaying};
 ghost use Rattle.rc_args.specs.OnceAsked.{once_ask_of, once_command, once_saying_of};
 ghost use Rattle.rc_args.specs.declared.asked.WordsFault.TheVariants.{Memory};
@@ -14,7 +14,7 @@ use crate::asked::{WordsFault, plan_in};
 use crate::cmdline::is_on;
 use crate::command_words::Meaning;
 use crate::defaults::Defaults;
-use crate::limits::run_limit_of;
+use crate::limits::{run_limit_of, state_of};
 use crate::session_request::SessionRequest;
 use crate::session_words::session_in;
 use crate::texts::{strings_of, words_in};
@@ -44,6 +44,8 @@ pub enum Once {
 pub struct OnceRequest<'a> {
     /// What it is to do.
     pub once: Once,
+    /// The state to which it goes back by one undo after the other, if it names one.
+    pub to: Option<u32>,
     /// The options of the session.
     pub session: SessionRequest<'a>,
 }
@@ -56,9 +58,10 @@ impl<'a> OnceRequest<'a> {
           session = session_by (defaults_ask_of defaults.entry) (once_ask_of self.entry).session;
         } }
     {
-        let OnceRequest { once, session } = self;
+        let OnceRequest { once, to, session } = self;
         OnceRequest {
             once,
+            to,
             session: session.with_defaults(defaults),
         }
     }
@@ -106,9 +109,10 @@ pub(crate) fn once_in<'a>(
     if lacks_names(matches, meaning.flag) {
         return Err(WordsFault::Names);
     }
+    let to = state_in(matches)?;
     let once = what_in(alloc, meaning, matches)?;
     let session = session_in(alloc, matches)?;
-    Ok(OnceRequest { once, session })
+    Ok(OnceRequest { once, to, session })
 }
 
 /// Returns true if the positional arguments have no newline.
@@ -134,6 +138,15 @@ fn is_one_line(word: &str) -> bool
     ensures { IsTrue result ↔ IsOneLine word.now }
 {
     !word.as_bytes().contains(&b'\n')
+}
+
+// Returns the state to which an undo is to go back, if its matches name one.
+fn state_in(matches: &ArgMatches<'_>) -> Result<Option<u32>, WordsFault>
+    ensures asked { IfOk result (AsksStateIn (rows_of (found_of matches.now))) }
+    ensures wrong { IfErr result (λ fault. fault ≢ Memory → (to : Option ℕ) →
+        AsksStateIn (rows_of (found_of matches.now)) to → ⊥) }
+{
+    state_of(matches.get_str("to"), is_on(matches, "dry"))
 }
 
 // Returns true if a flag counts as given and the matches name nothing.

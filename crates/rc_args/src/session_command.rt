@@ -2,8 +2,10 @@
 ghost use Rattle.std.specs.Prelude.{◌≡◌, ◌↔◌, IsTrue, Option, option_map};
 ghost use Rattle.clap.specs.Words.{Text};
 ghost use Rattle.rc_args.specs.Defaults.{defaults_ask_of, first_named};
-ghost use Rattle.rc_args.specs.Invocation.{LacksOne, command_session, invocation_by};
-ghost use Rattle.rc_args.specs.Invocation.{LacksItsFile, on_session, wanted_files};
+ghost use Rattle.rc_args.specs.Invocation.{LacksForLine, LacksItsFile, LacksOne};
+ghost use Rattle.rc_args.specs.Invocation.{command_session, invocation_by, on_session};
+ghost use Rattle.rc_args.specs.Invocation.{wanted_by, wanted_files};
+ghost use Rattle.rc_args.specs.OnceAsked.{once_ask_of};
 
 use crate::asked::WordsFault;
 use crate::defaults::Defaults;
@@ -27,7 +29,8 @@ pub enum SessionCommand<'a> {
     Seal(SessionRequest<'a>),
     /// The state of services is shown.
     Status(NamedRequest<'a>),
-    /// The controller is asked whether longruns are where the session says.
+    /// The controller is asked whether services are where the session says, and they may be
+    /// brought there.
     Check(NamedRequest<'a>),
 }
 
@@ -81,7 +84,7 @@ impl<'a> SessionCommand<'a> {
     {
         match self {
             SessionCommand::Lines(_) => false,
-            SessionCommand::Line(request) => request.lacks_file(),
+            SessionCommand::Line(request) => line_lacks(request, base),
             SessionCommand::Update(request) => lacks_one(base, request.session.live),
             SessionCommand::Restart(request)
             | SessionCommand::Status(request)
@@ -95,10 +98,31 @@ impl<'a> SessionCommand<'a> {
         ensures { (file : Option Text) → result ≡ wanted_files (on_session self.now file) }
     {
         match self {
-            SessionCommand::Line(_) => WordsFault::NoFile,
+            SessionCommand::Line(request) => wanted_by(request.to),
             SessionCommand::Update(_) => WordsFault::Files,
             _ => WordsFault::Both,
         }
+    }
+}
+
+// Returns true if a file that a line needs is not named. To go back to a state, it needs both.
+fn line_lacks(request: &OnceRequest<'_>, base: Option<&str>) -> bool
+    ensures { IsTrue result ↔ LacksForLine request.now.to (once_ask_of request.now)
+        (option_map (λ f. f.now) base.entry) }
+{
+    match request.to {
+        Some(_) => lacks_one(base, request.session.live),
+        None => request.lacks_file(),
+    }
+}
+
+// Returns the fault that says which files a line wants that goes back to this state.
+fn wanted_by(to: Option<u32>) -> WordsFault
+    ensures { result ≡ wanted_by to }
+{
+    match to {
+        Some(_) => WordsFault::Both,
+        None => WordsFault::NoFile,
     }
 }
 

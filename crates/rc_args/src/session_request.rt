@@ -20,6 +20,8 @@ pub struct SessionRequest<'a> {
     pub live: Option<&'a str>,
     /// Whether that file is waited for where another program holds it.
     pub waits: bool,
+    /// The directory that keeps what the last script of each service wrote.
+    pub output: Option<&'a str>,
     ghost crew: { (1 ≤ workers) × (workers ≤ 64) },
     ghost states: { 3 ≤ bound },
 }
@@ -29,8 +31,8 @@ impl<'a> SessionRequest<'a> {
     ghost use Rattle.rc_args.specs.SessionAsked.{Starts, session_ask_of};
     ghost use Rattle.rc_args.specs.Defaults.{session_by, defaults_ask_of};
 
-    /// Returns this request with the given defaults for the files and programs that it does not
-    /// name. If nothing is started, the default file is left alone.
+    /// Returns this request with the given defaults for the files, the programs and the directory
+    /// that it does not name. If nothing is started, these defaults are left alone.
     pub fn with_defaults(mut self, defaults: Defaults<'a>) -> SessionRequest<'a>
         ensures { session_ask_of result
             ≡ session_by (defaults_ask_of defaults.entry) (session_ask_of self.entry) }
@@ -39,6 +41,7 @@ impl<'a> SessionRequest<'a> {
             Making::Table(_) => self,
             Making::Programs(programs) => {
                 self.live = named_or(self.live, defaults.live);
+                self.output = named_or(self.output, defaults.output);
                 self.making = Making::Programs(Programs {
                     runner: named_or(programs.runner, defaults.runner),
                     controller: named_or(programs.controller, defaults.controller),

@@ -76,6 +76,7 @@ fn options_in<'a>(
             bound,
             live: text_in(matches, "live"),
             waits: is_on(matches, "wait"),
+            output: text_in(matches, "output"),
         }),
         Err(fault) => Err(fault),
     }

@@ -3,7 +3,8 @@ ghost use Rattle.std.specs.Prelude.{◌≡◌};
 ghost use Rattle.clap.specs.Words.{App};
 ghost use Rattle.rc_args.specs.Commands.{IsOwn, Reads, altering_program, asking_program, bare};
 ghost use Rattle.rc_args.specs.Commands.{bare_program};
-ghost use Rattle.rc_args.specs.Commands.{changing_program, flag, option, program, query_word};
+ghost use Rattle.rc_args.specs.Commands.{changing_program, flag, long_option, option, program};
+ghost use Rattle.rc_args.specs.Commands.{query_word};
 ghost use Rattle.rc_args.specs.Commands.{repeated, rule_in, with_arg, with_command};
 ghost use Rattle.rc_args.specs.Told.{listed, told_command, told_rule, with_told};
 
@@ -139,6 +140,7 @@ fn arg_of<'a>(alloc: Global, told: &ToldArg) -> Arg<'a>
             true,
         ),
         ToldArg::Repeated(id, letter, value, help) => repeated(alloc, id, letter, value, help),
+        ToldArg::Long(id, value, help) => long_option(alloc, id, value, help),
         ToldArg::Query => query_argument(alloc),
         ToldArg::Words(least, name, help) => words_argument(alloc, least, name, help),
     }
@@ -162,6 +164,18 @@ fn option<'a>(alloc: Global, id: &'a str, letter: char, value: &'a str, help: &'
 {
     Arg::new(alloc, id)
         .short(letter)
+        .value_name(value)
+        .action(ArgAction::Set)
+        .help(help)
+}
+
+#[tactic(auto, unfolding(crate::specs::Commands::rule_in, crate::specs::Commands::IsOwn, crate::specs::Commands::long_option))]
+fn long_option<'a>(alloc: Global, id: &'a str, value: &'a str, help: &'a str) -> Arg<'a>
+    ensures rule { rule_in result ≡ long_option id.entry.now }
+    ensures local { IsOwn result }
+{
+    Arg::new(alloc, id)
+        .long(id)
         .value_name(value)
         .action(ArgAction::Set)
         .help(help)

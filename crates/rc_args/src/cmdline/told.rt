@@ -1,5 +1,5 @@
 //! The commands of the program and their arguments, in the order of its help.
-use ToldArg::{Flag, Needed, Query, Repeated, Valued, Words};
+use ToldArg::{Flag, Long, Needed, Query, Repeated, Valued, Words};
 
 /// An argument of a command.
 pub(crate) enum ToldArg {
@@ -13,6 +13,9 @@ pub(crate) enum ToldArg {
     /// An option that may be repeated: its id, its letter, the name of its value, and what help
     /// says of it.
     Repeated(&'static str, char, &'static str, &'static str),
+    /// An option of a word: that, which is its id, too, the name of its value, and what help says
+    /// of it.
+    Long(&'static str, &'static str, &'static str),
     /// The word that is the query.
     Query,
     /// Words: how many there must be, the name of one, and what help says of them.
@@ -127,6 +130,14 @@ const CONTROLLER: ToldArg = Valued(
     "Start this program, with these words, for a longrun; `up` or `down` and the name are its last words",
 );
 
+// Where what scripts write is kept.
+const OUTPUT: ToldArg = Valued(
+    "output",
+    'o',
+    "DIR",
+    "Keep what the last script of each service wrote, in this directory, in a file of its name",
+);
+
 // How long a transition may take, and which transitions are reported.
 const USUAL: ToldArg = Valued(
     "usual",
@@ -202,12 +213,13 @@ const DRY: ToldArg = Flag(
     "Print what would be lowered and raised, and move nothing",
 );
 
-const SESSION: [ToldArg; 11] = [
+const SESSION: [ToldArg; 12] = [
     BASE,
     WORKERS,
     FAILING,
     RUNNER,
     CONTROLLER,
+    OUTPUT,
     USUAL,
     Flag(
         "verbose",
@@ -224,28 +236,50 @@ const SESSION: [ToldArg; 11] = [
     ),
 ];
 
-const CHANGE: [ToldArg; 18] = [
-    BASE, WORKERS, FAILING, RUNNER, CONTROLLER, USUAL, VERBOSE, LIVE, WAIT, LIMIT, DRY, QUIET, UP,
-    DOWN, DOWN_ALL, PRUNE, ALL, NAMES,
+const CHANGE: [ToldArg; 19] = [
+    BASE, WORKERS, FAILING, RUNNER, CONTROLLER, OUTPUT, USUAL, VERBOSE, LIVE, WAIT, LIMIT, DRY,
+    QUIET, UP, DOWN, DOWN_ALL, PRUNE, ALL, NAMES,
 ];
 
-const START: [ToldArg; 15] = [
-    BASE, WORKERS, FAILING, RUNNER, CONTROLLER, USUAL, VERBOSE, LIVE, WAIT, LIMIT, DRY, QUIET,
-    PRUNE, ALL, NAMES,
+const START: [ToldArg; 16] = [
+    BASE, WORKERS, FAILING, RUNNER, CONTROLLER, OUTPUT, USUAL, VERBOSE, LIVE, WAIT, LIMIT, DRY,
+    QUIET, PRUNE, ALL, NAMES,
 ];
 
-const STOP: [ToldArg; 14] = [
-    BASE, WORKERS, FAILING, RUNNER, CONTROLLER, USUAL, VERBOSE, LIVE, WAIT, LIMIT, DRY, QUIET, ALL,
-    NAMES,
+const STOP: [ToldArg; 15] = [
+    BASE, WORKERS, FAILING, RUNNER, CONTROLLER, OUTPUT, USUAL, VERBOSE, LIVE, WAIT, LIMIT, DRY,
+    QUIET, ALL, NAMES,
 ];
 
-const STEP: [ToldArg; 12] = [
-    BASE, WORKERS, FAILING, RUNNER, CONTROLLER, USUAL, VERBOSE, LIVE, WAIT, LIMIT, DRY, QUIET,
+const STEP: [ToldArg; 13] = [
+    BASE, WORKERS, FAILING, RUNNER, CONTROLLER, OUTPUT, USUAL, VERBOSE, LIVE, WAIT, LIMIT, DRY,
+    QUIET,
 ];
 
-const UPDATE: [ToldArg; 14] = [
-    BASE, WORKERS, FAILING, RUNNER, CONTROLLER, USUAL, VERBOSE, LIVE, WAIT, NEW, RENAMES, RESTARTS,
-    DRY, QUIET,
+const UNDO: [ToldArg; 14] = [
+    BASE,
+    WORKERS,
+    FAILING,
+    RUNNER,
+    CONTROLLER,
+    OUTPUT,
+    USUAL,
+    VERBOSE,
+    LIVE,
+    WAIT,
+    LIMIT,
+    DRY,
+    QUIET,
+    Long(
+        "to",
+        "K",
+        "Go back to this state of the journal, one undo after the other",
+    ),
+];
+
+const UPDATE: [ToldArg; 15] = [
+    BASE, WORKERS, FAILING, RUNNER, CONTROLLER, OUTPUT, USUAL, VERBOSE, LIVE, WAIT, NEW, RENAMES,
+    RESTARTS, DRY, QUIET,
 ];
 
 const SHOW: [ToldArg; 3] = [BASE, LIVE, WAIT];
@@ -268,12 +302,13 @@ const JOURNAL: [ToldArg; 4] = [
     ),
 ];
 
-const RESTART: [ToldArg; 12] = [
+const RESTART: [ToldArg; 13] = [
     BASE,
     WORKERS,
     FAILING,
     RUNNER,
     CONTROLLER,
+    OUTPUT,
     USUAL,
     VERBOSE,
     LIVE,
@@ -284,27 +319,49 @@ const RESTART: [ToldArg; 12] = [
 ];
 
 // The state of a session, which is shown without a lock.
-const STATUS: [ToldArg; 4] = [
+const STATUS: [ToldArg; 6] = [
     BASE,
     Valued("live", 'l', "FILE", "The file of the session"),
+    Valued(
+        "output",
+        'o',
+        "DIR",
+        "The directory that keeps what the last script of each service wrote",
+    ),
     Flag(
         "failed",
         'f',
         "Print nothing but what failed, and end with status 3 if anything did",
     ),
+    Flag(
+        "verbose",
+        'v',
+        "Also print the last ten lines that the script of each named service wrote",
+    ),
     NAMES,
 ];
 
-// What is asked about a session without a lock, and the program that is asked.
-const CHECK: [ToldArg; 4] = [
+// What is asked about a session without a lock, and how it is repaired.
+const CHECK: [ToldArg; 11] = [
     BASE,
+    WORKERS,
     Valued(
         "controller",
         'c',
         "TEXT",
-        "Ask this program, with these words; `state` and the name are its last words",
+        "Ask this program, with these words; `state` or `check` and the name are its last words",
     ),
-    Valued("live", 'l', "FILE", "The file of the session"),
+    OUTPUT,
+    USUAL,
+    VERBOSE,
+    LIVE,
+    WAIT,
+    QUIET,
+    Flag(
+        "repair",
+        'r',
+        "Repair: lower what is up and not live, and restart what is live and down",
+    ),
     NAMES,
 ];
 
@@ -335,12 +392,15 @@ const DELETE: [ToldArg; 5] = [
     Words(1, "NAME", "The name of a bundle"),
 ];
 
-const CANCEL: [ToldArg; 1] = [Valued(
-    "live",
-    'l',
-    "FILE",
-    "Call off the command that goes on with the session in this file",
-)];
+const CANCEL: [ToldArg; 2] = [
+    Valued(
+        "live",
+        'l',
+        "FILE",
+        "Call off the command that goes on with the session in this file",
+    ),
+    Flag("kill", 'k', "End the scripts that it has started, too"),
+];
 
 /// The commands that ask about databases.
 pub(crate) const ASKING: [ToldCommand; 4] = [
@@ -391,7 +451,7 @@ pub(crate) const CHANGING: [ToldCommand; 6] = [
     ToldCommand {
         name: "undo",
         about: "Takes the last change back that is not undone",
-        args: &STEP,
+        args: &UNDO,
     },
     ToldCommand {
         name: "redo",
@@ -438,7 +498,7 @@ pub(crate) const SHOWING: [ToldCommand; 8] = [
     },
     ToldCommand {
         name: "check",
-        about: "Asks where each longrun is, and prints those that are not where the session says",
+        about: "Asks where each service is, and prints those that are not where the session says",
         args: &CHECK,
     },
     ToldCommand {

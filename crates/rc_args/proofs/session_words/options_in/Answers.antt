@@ -34,6 +34,7 @@ returns-in-Ok-clause-asked c = record {
       c.get_str-2.ensures c.in-Some-bound_of.ensures.some;
   live = c.text_in.ensures;
   waits = c.is_on.ensures;
+  output = c.text_in-in-Ok.ensures;
 }
 
 pub returns-in-Err-clause-wrong : goal.returns-in-Err-clause-wrong
