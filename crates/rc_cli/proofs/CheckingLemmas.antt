@@ -1,8 +1,8 @@
--- Whether longruns are where a session says, and how that is printed.
+-- Whether services are where a session says, and how that is printed.
 use Rattle.std.proofs.Common.{◌≡◌, ◌≢◌, ◌∙◌, ◌<◌, ◌≤◌, ◌==◌, ◌+◌, ◌++◌, ◌⊎◌, zero, suc, arith, ℕ}
 use Rattle.std.proofs.Common.{Bool, true, false, List, [], ◌∷◌, Result, Ok, Err, IfOk, OnOk, Option}
 use Rattle.std.proofs.Common.{All, Some, if◌then◌else◌, inl, inr, length, map, refl, ap, sym, subst}
-use Rattle.std.proofs.lemmas.Bool.{cases_lt, eq-eqb, ne_eqb}
+use Rattle.std.proofs.lemmas.Bool.{cases_lt}
 use Rattle.rc_model.specs.Database.{Bundles, Database, IsKnown, IsUnknownAt, Selected}
 use Rattle.rc_model.specs.declared.Refusal.TheVariants.{Unknown}
 use Rattle.rc_model.specs.Line.{Line}
@@ -16,8 +16,10 @@ use Rattle.rc_render.specs.RefusalText.{refusal_text}
 use Rattle.rc_runner.specs.declared.asking.Found.{Found}
 use Rattle.rc_args.specs.NamedAsked.{NamedAsk}
 use Rattle.rc_args.specs.SessionAsked.{SessionAsk}
-use Rattle.rc_cli.specs.Checking.{AnswersCheck, CanAsk, Checks, IsAsked, IsUnasked, IsUnmet}
-use Rattle.rc_cli.specs.Checking.{IsMeant, IsNamedBy, line_of, lines_to, status_by}
+use Rattle.rc_cli.specs.Checking.{AnswersCheck, AreAsked, CanAsk, Checks, Finding, IsUnasked}
+use Rattle.rc_cli.specs.Checking.{IsMeant, IsMeantLongrun, IsNamedBy, IsUnmet, answer_at, found_by}
+use Rattle.rc_cli.specs.Checking.{is_elsewhere_at, line_of, lines_to, name_if, names_to}
+use Rattle.rc_cli.specs.Checking.{refused_by}
 use Rattle.rc_cli.specs.Controlled.{LacksController}
 use Rattle.rc_cli.specs.Filing.{BeginsBy}
 use Rattle.rc_cli.specs.Serving.{session_on}
@@ -25,62 +27,38 @@ use Rattle.rc_cli.specs.declared.sessions.keeping.LiveFile.{LiveFile}
 use Rattle.rc_cli.specs.declared.sessions.session_fault.SessionFault.{SessionFault}
 use Rattle.rc_cli.specs.declared.sessions.session_fault.SessionFault.TheVariants as failing
 
--- answers, and one more
-abbrev pub with_answer : (answers : ℕ → Found) (s : ℕ) (found : Found) → ℕ → Found
-with_answer answers s found t = if t == s then found else answers t
+-- the lines of one service more
+pub lines_more : (names : List (List ℕ)) (asked longruns live : List Bool) (answers : List Found)
+    (s : ℕ) (text more : List ℕ) → text ≡ lines_to names asked longruns live answers s
+    → more ≡ text ++ line_of names asked longruns live (answer_at answers s) s
+    → more ≡ lines_to names asked longruns live answers (s + 1)
+lines_more names asked longruns live answers s text more is adds =
+    let next : suc s ≡ s + 1 = omega arith in
+    adds ∙ (ap (λ (t : List ℕ). t ++ line_of names asked longruns live (answer_at answers s) s) is
+    ∙ ap (lines_to names asked longruns live answers) next)
 
-answer_at : (answers : ℕ → Found) (s : ℕ) (found : Found) → with_answer answers s found s ≡ found
-answer_at answers s found = ap (λ (b : Bool). if b then found else answers s) (eq-eqb s s refl)
+-- the names of one service more
+pub names_more : (up : Bool) (names : List (List ℕ)) (asked live : List Bool)
+    (answers : List Found) (s : ℕ) (one : Bool) (list more : List (List ℕ))
+    → one ≡ is_elsewhere_at up asked live answers s
+    → list ≡ names_to up names asked live answers s → more ≡ list ++ name_if names one s
+    → more ≡ names_to up names asked live answers (s + 1)
+names_more up names asked live answers s one list more same is adds =
+    let next : suc s ≡ s + 1 = omega arith in
+    adds ∙ (ap (λ (b : Bool). list ++ name_if names b s) same
+    ∙ (ap (λ (l : List (List ℕ)). l
+    ++ name_if names (is_elsewhere_at up asked live answers s) s) is
+    ∙ ap (names_to up names asked live answers) next))
 
-answer_below : (answers : ℕ → Found) (s : ℕ) (found : Found) (t : ℕ) → t < s
-    → with_answer answers s found t ≡ answers t
-answer_below answers s found t below =
-    let other : t ≢ s = λ is. omega (arith, is, below) in
-    ap (λ (b : Bool). if b then found else answers t) (ne_eqb t s other)
-
-module _ (names : List (List ℕ)) (asked live : List Bool) where
-  -- lines are those of the answers about the services below
-  lines_same : (answers other : ℕ → Found) (count : ℕ)
-      → ((t : ℕ) → t < count → answers t ≡ other t)
-      → lines_to names asked live answers count ≡ lines_to names asked live other count
-  lines_same answers other zero same = refl
-  lines_same answers other (suc s) same =
-      let low : s < suc s = omega arith in
-      ap (λ (text : List ℕ). text ++ line_of names asked live (answers s) s)
-      (lines_same answers other s
-      (λ t below. let less : t < suc s = omega (arith, below) in same t less))
-      ∙ ap (λ (f : Found). lines_to names asked live other s ++ line_of names asked live f s)
-      (same s low)
-
-  -- the lines of one service more
-  pub lines_more : (answers : ℕ → Found) (s : ℕ) (found : Found) (text more : List ℕ)
-      → text ≡ lines_to names asked live answers s
-      → more ≡ text ++ line_of names asked live found s
-      → (others : ℕ → Found) × (more ≡ lines_to names asked live others (s + 1))
-  lines_more answers s found text more is adds =
-      let others : ℕ → Found = with_answer answers s found in
-      let next : suc s ≡ s + 1 = omega arith in (
-        others,
-        adds ∙ (ap (λ (t : List ℕ). t ++ line_of names asked live found s)
-            (is ∙ lines_same answers others s
-            (λ t below. sym (answer_below answers s found t below)))
-            ∙ (ap (λ (f : Found). lines_to names asked live others s
-            ++ line_of names asked live f s) (sym (answer_at answers s found))
-            ∙ ap (lines_to names asked live others) next)),
-      )
-
--- what was printed about services of a database, by names that are those of it
-pub checks_by : (d : Database) (names : List (List ℕ)) (asked live : List Bool) (status : ℕ)
-    (text shown : List ℕ) → names ≡ d.names → shown ≡ text → status ≡ status_by shown
-    → ((answers : ℕ → Found) × (text ≡ lines_to names asked live answers (length names)))
-    → Checks d asked live status text
-checks_by d names asked live status text shown same is ends lines = (
-  subst (λ (t : List ℕ). status ≡ status_by t) is ends,
-  (
-    lines.0,
-    subst (λ (ns : List (List ℕ)). text ≡ lines_to ns asked live lines.0 (length ns)) same
-        lines.1,
-  ),
+-- what was found of services of a database, by names that are those of it
+pub checks_by : (d : Database) (names : List (List ℕ)) (asked longruns live : List Bool)
+    (answers : List Found) (finding : Finding) → names ≡ d.names
+    → length answers ≡ length d.names → finding ≡ found_by names asked longruns live answers
+    → Checks d asked longruns live finding
+checks_by d names asked longruns live answers finding same counts is = (
+  answers,
+  counts,
+  is ∙ ap (λ (ns : List (List ℕ)). found_by ns asked longruns live answers) same,
 )
 
 -- the first longrun that no program controls is told
@@ -111,48 +89,50 @@ with_ok (Ok x) P Q p q = (p, q)
 with_ok (Err e) P Q p q = tt
 
 module _ (d x : Database) (here : Line) (ask : NamedAsk) (words : List (List ℕ))
-    (asked : List Bool) where
-  -- an answer about longruns, by a database, a state and names that are known by other names
-  pub known_answer : (live : List Bool) (status : ℕ) (text : List ℕ) → x ≡ d
+    (longruns : List Bool) where
+  -- an answer about services, by a database, a state and names that are known by other names
+  pub known_answer : (asked live : List Bool) (finding : Finding) → x ≡ d
       → live ≡ here.current.live → words ≡ ask.names
-      → Holds asked (IsAsked d here.current.table words)
-      → All (IsKnown d.names here.current.table) words → Checks x asked live status text
-      → CanAsk ask.session asked → AnswersCheck d here ask status text
-  known_answer live status text same lives are holds known checks can = inl (
+      → AreAsked d here.current.table words asked longruns
+      → All (IsKnown d.names here.current.table) words → Checks x asked longruns live finding
+      → CanAsk ask.session longruns → AnswersCheck d here ask finding
+  known_answer asked live finding same lives are holds known checks can = inl (
     asked,
-    subst (λ (ws : List (List ℕ)). Holds asked (IsAsked d here.current.table ws)) are holds,
+    longruns,
+    subst (λ (ws : List (List ℕ)). AreAsked d here.current.table ws asked longruns) are holds,
     can,
     subst (λ (ws : List (List ℕ)). All (IsKnown d.names here.current.table) ws) are known,
-    subst (λ (y : Database). Checks y asked here.current.live status text) same
-        (subst (λ (l : List Bool). Checks x asked l status text) lives checks),
+    subst (λ (y : Database). Checks y asked longruns here.current.live finding) same
+        (subst (λ (l : List Bool). Checks x asked longruns l finding) lives checks),
   )
 
   -- why there is none
-  pub unmet_answer : (fault : SessionFault) → x ≡ d → words ≡ ask.names
-      → Holds asked (IsAsked d here.current.table words)
-      → All (IsKnown d.names here.current.table) words → IsUnasked x asked ask.session fault
+  pub unmet_answer : (asked : List Bool) (fault : SessionFault) → x ≡ d → words ≡ ask.names
+      → AreAsked d here.current.table words asked longruns
+      → All (IsKnown d.names here.current.table) words → IsUnasked x longruns ask.session fault
       → IsUnmet d here ask fault
-  unmet_answer fault same are holds known unasked = inl (
-    asked,
-    subst (λ (ws : List (List ℕ)). Holds asked (IsAsked d here.current.table ws)) are holds,
+  unmet_answer asked fault same are holds known unasked = inl (
+    longruns,
+    subst (λ (ws : List (List ℕ)). Holds longruns (IsMeantLongrun d here.current.table ws)) are
+        holds.among,
     subst (λ (ws : List (List ℕ)). All (IsKnown d.names here.current.table) ws) are known,
-    subst (λ (y : Database). IsUnasked y asked ask.session fault) same unasked,
+    subst (λ (y : Database). IsUnasked y longruns ask.session fault) same unasked,
   )
 
 -- the answer that the first name which is none is refused
 pub unknown_word : (d : Database) (here : Line) (ask : NamedAsk) (words : List (List ℕ))
-    (fault : QueryFault) (place status : ℕ) (text : List ℕ) (shown : List (List ℕ))
+    (fault : QueryFault) (place : ℕ) (finding : Finding) (shown : List (List ℕ))
     → words ≡ ask.names → shown ≡ ask.names → fault ≡ fault_is.Unknown place
     → IsNamesFault d.names here.current.table words fault
-    → (status ≡ 1) × (text ≡ refusal_text shown (Unknown place))
-    → AnswersCheck d here ask status text
-unknown_word d here ask words fault place status text shown are same is fails told =
+    → finding ≡ refused_by (refusal_text shown (Unknown place))
+    → AnswersCheck d here ask finding
+unknown_word d here ask words fault place finding shown are same is fails told =
     let at : IsNamesFault d.names here.current.table words (fault_is.Unknown place) =
     subst (λ (f : QueryFault). IsNamesFault d.names here.current.table words f) is fails in inr (
       place,
       subst (λ (ws : List (List ℕ)). IsUnknownAt d.names here.current.table ws place) are at,
-      told.0,
-      subst (λ (ws : List (List ℕ)). text ≡ refusal_text ws (Unknown place)) same told.1,
+      subst (λ (ws : List (List ℕ)). finding ≡ refused_by (refusal_text ws (Unknown place))) same
+          told,
     )
 
 -- services that are named are meant, where there is a name

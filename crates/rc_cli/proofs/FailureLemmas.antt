@@ -1,7 +1,9 @@
 -- The failures that are remembered.
-use Rattle.std.proofs.Common.{◌≡◌, ◌∙◌, ◌++◌, ◌∷◌, ℕ, Bool, true, false, List, [], Option, None}
-use Rattle.std.proofs.Common.{Some, IfSome, ap, refl, subst, sym}
+use Rattle.std.proofs.Common.{◌≡◌, ◌∙◌, ◌++◌, ◌∷◌, ◌&&◌, ℕ, Bool, true, false, List, [], Option}
+use Rattle.std.proofs.Common.{None, Some, IfSome, ap, refl, subst, sym, length, take, drop}
 use Rattle.std.proofs.Common.{true≢false, if◌then◌else◌}
+use Rattle.std.specs.Prelude.{nat_eq}
+use Rattle.std.proofs.lemmas.Bool.{and_parts, eqb-true, false≢true}
 use Rattle.std.specs.Option.{option_map_or, option_or}
 use Rattle.std.specs.Str.{bytes_eq}
 use Rattle.std.proofs.lemmas.Slice.Eq.{bytes_eq-Decides}
@@ -103,3 +105,27 @@ remembered_for before ends name own = for_both (kept before ends) (last_failures
     (λ no. rw no (ap (option_or (failure_for before name)) (known_still name ends None no)
     ∙ or_none (failure_for before name)
     ∙ sym (known_still name ends (failure_for before name) no)))
+
+-- an equality of numbers, the other way round
+turned : (n m : ℕ) → nat_eq n m ≡ true → nat_eq m n ≡ true
+turned n m is = subst (λ (k : ℕ). nat_eq k n ≡ true) (eqb-true n m is)
+    (subst (λ (k : ℕ). nat_eq n k ≡ true) (sym (eqb-true n m is)) is)
+
+-- a text that begins with another one is that and a third one where the third one is its rest
+pub front_cut : (front rest text : List ℕ) → bytes_eq (take (length front) text) front ≡ true
+    → bytes_eq rest (drop (length front) text) ≡ bytes_eq (front ++ rest) text
+front_cut [] rest text begins = refl
+front_cut (f ∷ fs) rest [] begins = absurd (false≢true begins)
+front_cut (f ∷ fs) rest (t ∷ ts) begins =
+    let both = and_parts (nat_eq t f) (bytes_eq (take (length fs) ts) fs) begins in
+    front_cut fs rest ts both.1
+    ∙ sym (ap (λ (b : Bool). b && bytes_eq (fs ++ rest) ts) (turned t f both.0))
+
+-- and one that does not begin with it is none
+pub no_front : (front rest text : List ℕ) → bytes_eq (take (length front) text) front ≡ false
+    → bytes_eq (front ++ rest) text ≡ false
+no_front [] rest text none = absurd (true≢false none)
+no_front (f ∷ fs) rest [] none = refl
+no_front (f ∷ fs) rest (t ∷ ts) none = told (nat_eq f t) _
+    (λ yes. rw yes (no_front fs rest ts (rw (turned f t yes) at none)))
+    (λ no. rw no refl)

@@ -24,6 +24,10 @@ mod QueryLemmas
 mod Telling
 -- How the two steps of an update are served, and how it ends.
 mod UpdateLemmas
+-- Which texts one line puts into a store, and which the two steps of an update.
+mod PuttingLemmas
+-- How the steps of a restart lead a store, and how a session that is launched does.
+mod LeadingLemmas
 -- What the steps of an update move.
 mod SparingLemmas
 -- What an update moves, where the old database and what is live are known by other names.
@@ -38,7 +42,9 @@ mod ShowingLemmas
 mod FailureLemmas
 -- Where services stand, and how that is printed.
 mod StatusLemmas
--- Whether longruns are where a session says.
+-- Whether services are where a session says.
 mod CheckingLemmas
+-- Strays are brought down.
+mod StrayingLemmas
 -- What a command would move, and that there is no other.
 mod ControlledLemmas

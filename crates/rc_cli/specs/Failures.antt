@@ -191,9 +191,17 @@ abbrev pub plain_line : (only : Bool) → (name word : List ℕ) → List ℕ
 plain_line only name word = if only && not (bytes_eq word (codes "failed"))
     then [] else name ++ 32 ∷ word ++ 10 ∷ []
 
+-- whether how a transition ended is not known, since its command was cut short
+abbrev pub is_cut_short : Failure → Bool
+is_cut_short f = bytes_eq f.outcome (codes "cut-short")
+
+-- the word for a service with its failure
+abbrev pub failed_word : Failure → List ℕ
+failed_word f = if is_cut_short f then codes " unknown " else codes " failed "
+
 -- the line of a service with its failure
 abbrev pub failed_line : List ℕ → Failure → List ℕ
-failed_line name f = name ++ codes " failed " ++ about f ++ 10 ∷ []
+failed_line name f = name ++ failed_word f ++ about f ++ 10 ∷ []
 
 -- what is shown of a line of a name and a word
 abbrev pub shown_line : (only : Bool) → List Failure → List (List ℕ) → List ℕ

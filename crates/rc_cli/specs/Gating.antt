@@ -2,6 +2,7 @@
 use Rattle.std.specs.Prelude.{◌≡◌, [], Bool, true, false, Option, option_map}
 use Rattle.rc_model.specs.Database.{Database}
 use Rattle.rc_runner.specs.Shell.{scripts_of}
+use Rattle.rc_streams.specs.declared.output_folder.OutputFolder.{OutputFolder}
 use Rattle.rc_runner.specs.declared.session_gate.SessionGate.{SessionGate}
 use Rattle.rc_runner.specs.declared.session_gate.SessionGate.TheVariants.{Table, Shell}
 use Rattle.rc_args.specs.Programs.{ByPrograms, ByTable, MakingAsk, controller_in, listed_in}
@@ -30,12 +31,15 @@ shows_writes Quiet = false
 shows_writes Failures = false
 shows_writes Transitions = true
 
--- a gate that starts programs shows what they write where each transition is reported; its runs are
--- logged and called off by these files, if there are any
-abbrev pub IsOnFiles : {R L : Type 0} → Verbosity → Option RunFiles → SessionGate R L → Type 0
-IsOnFiles verbosity files (Table table) = Unit {0}
-IsOnFiles verbosity files (Shell shell) = (shell.shows ≡ shows_writes verbosity)
-    × (shell.log ≡ option_map (λ f. f.log) files) × (shell.stop ≡ option_map (λ f. f.stop) files)
+-- a gate that starts programs shows what they write where each transition is reported, and keeps it
+-- in this directory, if there is one; its runs are logged and called off by these files, if there
+-- are any
+abbrev pub IsOnFiles : {R L : Type 0} → Verbosity → Option OutputFolder → Option RunFiles
+    → SessionGate R L → Type 0
+IsOnFiles verbosity outputs files (Table table) = Unit {0}
+IsOnFiles verbosity outputs files (Shell shell) = (shell.shows ≡ shows_writes verbosity)
+    × (shell.outputs ≡ outputs) × (shell.log ≡ option_map (λ f. f.log) files)
+    × (shell.stop ≡ option_map (λ f. f.stop) files)
 
 -- why there is no such gate: the first name that is to fail and is no service's, or out of memory
 abbrev pub IsGateless : Database → MakingAsk → SessionFault → Type 0

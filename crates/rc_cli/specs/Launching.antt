@@ -1,10 +1,19 @@
 -- What a session comes to that is launched, with its status and what is told.
-use Rattle.std.specs.Prelude.{◌≡◌, ◌⊎◌, ℕ, List, Option, None}
-use Rattle.rc_cli.specs.Filing.{CannotKeep}
+use Rattle.std.specs.Prelude.{◌≡◌, ◌⊎◌, ℕ, List, Option, None, false, map, string_bytes}
+use Rattle.clap.specs.Words.{Text as Path}
+use Rattle.rc_model.specs.Database.{Database}
+use Rattle.rc_model.specs.Line.{Line}
+use Rattle.rc_args.specs.OnceAsked.{once_saying_of}
+use Rattle.rc_cli.specs.Filing.{BeginsBy, CannotKeep, file_named}
+use Rattle.rc_cli.specs.Putting.{LeadsLine, Putting}
+use Rattle.rc_cli.specs.Restarting.{LeadsBack}
 use Rattle.rc_cli.specs.Services.{OfLines}
-use Rattle.rc_cli.specs.Session.{Asked, Dealing}
+use Rattle.rc_cli.specs.Session.{Asked, Dealing, Opens}
 use Rattle.rc_cli.specs.SessionFaults.{ComesBy, EndsAs}
+use Rattle.rc_cli.specs.Steps.{lowering}
 use Rattle.rc_cli.specs.declared.sessions.service.Service.{Service}
+use Rattle.rc_cli.specs.declared.sessions.service.Service.TheVariants.{Lines, Line as OneLine}
+use Rattle.rc_cli.specs.declared.sessions.service.Service.TheVariants.{Restart}
 
 -- a session was served to its end, with the status of how that is, and nothing told; or a fault is
 -- told: a refusal, or a failure of the reader, of the writer or of the file only where that one has
@@ -15,3 +24,22 @@ Launches service asked status deal reader writer keeper before after = EndsAs
     (λ ended. ComesBy ended service asked deal (reader ⊎ OfLines service (asked.base ≡ None)) writer
     (CannotKeep asked.ask asked.file keeper))
     status before after
+
+-- all of a service is done on a session, and has led its store so: one line, or the two steps of a
+-- restart
+abbrev pub LeadsFor : {S : Type 0} → Putting S → Service → Option Path → Database → Line
+    → (was is : S) → Type 0
+LeadsFor Put Lines path d here was is = Unit {0}
+LeadsFor Put (OneLine once) path d here was is =
+    (new : Line) × LeadsLine Put path d (once_saying_of once.now) here new was is
+LeadsFor Put (Restart names) path d here was is =
+    LeadsBack Put path (lowering false (map string_bytes names.now)) d here was is
+
+-- and so from where its session begins
+abbrev pub LeadsLaunched : {S : Type 0} → Putting S → Service → Asked
+    → (remaining after : Option (List ℕ)) → (was is : S) → Type 0
+LeadsLaunched Put service asked remaining after was is =
+    (d : Database) × (input : Option (List ℕ)) × (left : Option (List ℕ))
+    × Opens asked.base remaining after d input left × (start : Line)
+    × BeginsBy d asked.ask.bound (file_named asked.ask.live asked.file) start
+    × LeadsFor Put service asked.ask.live d start was is

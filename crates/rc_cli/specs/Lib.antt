@@ -16,6 +16,8 @@ pub mod Steps
 pub mod Showing
 -- What one line comes to, as a command of its own, and where it has no answer.
 pub mod Once
+-- Which texts are put into the store of a session, and in which order.
+pub mod Putting
 -- The two steps of a restart: both by one session.
 pub mod Restarting
 -- What a session is launched for, and what it comes to.
@@ -58,7 +60,11 @@ pub mod Begun
 pub mod Sealing
 -- The failures that are remembered, and what is shown of them.
 pub mod Failures
+-- Since when services are where they are.
+pub mod Since
 -- Where services stand, as `status` prints it.
 pub mod Status
--- Whether longruns are where a session says, as `check` prints it.
+-- Whether services are where a session says, as `check` prints it.
 pub mod Checking
+-- What was found up and is not live is brought down.
+pub mod Straying

@@ -1,6 +1,8 @@
 -- The two steps of a restart: both by one session.
 use Rattle.std.specs.Prelude.{◌≡◌, ◌≢◌, ◌⊎◌, ℕ, List, [], Option, Result, Ok, Err}
 use Rattle.clap.specs.Words.{Text as Path}
+use Rattle.rc_model.specs.Database.{Database}
+use Rattle.rc_model.specs.Line.{Line}
 use Rattle.rc_model.specs.Session.{Undo}
 use Rattle.rc_script.specs.Says.{SaysStep}
 use Rattle.rc_session.specs.Holding.{Holding}
@@ -10,6 +12,7 @@ use Rattle.rc_serve.specs.declared.fault.ServeFault.{ServeFault}
 use Rattle.rc_serve.specs.Ending.{EndsIn}
 use Rattle.rc_args.specs.OnceAsked.{OnceSaying, Said}
 use Rattle.rc_cli.specs.Once.{ServedOnce, ServesOnce}
+use Rattle.rc_cli.specs.Putting.{LeadsLine, Putting}
 use Rattle.rc_cli.specs.Steps.{IsShort, ended_by, ending_behind}
 
 -- the line of the second step: an undo with the greatest limit
@@ -54,3 +57,14 @@ Restarted result path was is As what written gained old = IsShort result was is 
     × (IsStopped result ⊎ (after.line.current.live ≡ old.line.current.live))
     × ServedOnce result path was is As what written gained old after)
     ⊎ ServesSteps result path was is As what written gained old)
+
+-- all of a restart is done whose first line says this, and it has led its store so: by the first
+-- step, and if that has moved something, from there by the second one
+pub record LeadsBack {S : Type 0} (Put : Putting S) (path : Option Path) (what : OnceSaying)
+    (d : Database) (here : Line) (was is : S) : Type 0 where
+  pub middle : Line
+  pub left : S
+  pub first : LeadsLine Put path d what here middle was left
+  pub back : ((middle.current.live ≡ here.current.live) × (is ≡ left))
+      ⊎ ((middle.current.live ≢ here.current.live)
+      × (new : Line) × LeadsLine Put path d coming_back middle new left is)

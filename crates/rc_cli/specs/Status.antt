@@ -20,9 +20,12 @@ use Rattle.rc_dbtext.specs.Base.{Spells}
 use Rattle.rc_streams.specs.Input.{AppendsFront}
 use Rattle.rc_serve.specs.declared.fault.ServeFault.TheVariants.{Memory, Write}
 use Rattle.rc_args.specs.NamedAsked.{NamedAsk}
+use Rattle.rc_args.specs.declared.verbosity.Verbosity.{Verbosity}
+use Rattle.rc_args.specs.declared.verbosity.Verbosity.TheVariants.{Failures, Quiet, Transitions}
 use Rattle.rc_cli.specs.Failures.{listed, shown_text}
 use Rattle.rc_cli.specs.Filing.{BeginsBy, file_named}
 use Rattle.rc_cli.specs.SessionFaults.{IsFileFault, IsTold, IsUnspelled}
+use Rattle.rc_cli.specs.Since.{timed_text}
 use Rattle.rc_cli.specs.declared.sessions.keeping.LiveFile.{LiveFile}
 use Rattle.rc_cli.specs.declared.sessions.keeping.LiveFile.TheVariants as file
 use Rattle.rc_cli.specs.declared.sessions.session_fault.SessionFault.{SessionFault}
@@ -134,12 +137,43 @@ IsShownAs only failed shown.Refused text end seen = (end ≡ shown.Refused) × (
 IsShownAs only failed ending text end seen = (seen ≡ shown_text only (listed failed) text)
     × (end ≡ (if only then ending_for seen else ending))
 
+-- an answer of a session whose file does not exist: no line, since nothing is known of its
+-- services; and one that is refused as it is
+abbrev pub IsUnheld : (only : Bool) → (ending : Shown) → (text : List ℕ) → Shown → List ℕ → Type 0
+IsUnheld only shown.Refused text end seen = (end ≡ shown.Refused) × (seen ≡ text)
+IsUnheld only ending text end seen =
+    (seen ≡ []) × (end ≡ (if only then shown.Up else ending))
+
+-- an answer as it is shown of a file
+abbrev pub IsShownOf : LiveFile → (only : Bool) → (failed : List ℕ) → (ending : Shown)
+    → (text : List ℕ) → Shown → List ℕ → Type 0
+IsShownOf file.Missing only failed ending text end seen = IsUnheld only ending text end seen
+IsShownOf (file.Text bytes) only failed ending text end seen =
+    IsShownAs only failed ending text end seen
+IsShownOf (file.Unread fault) only failed ending text end seen =
+    IsShownAs only failed ending text end seen
+
 -- the answer of `status` with the failures of a text
 abbrev pub AnswersShown : (base : List ℕ) → NamedAsk → LiveFile → (log failed : List ℕ) → Shown
     → List ℕ → Type 0
 AnswersShown base ask live log failed ending text = (end : Shown) × (lines : List ℕ)
     × AnswersText base ask live log end lines
-    × IsShownAs ask.failed failed end lines ending text
+    × IsShownOf live ask.failed failed end lines ending text
+
+-- the lines of an answer: with the times by the log of commands, where each transition is reported
+abbrev pub with_times : Verbosity → (times : List ℕ) → Shown → (lines : List ℕ) → List ℕ
+with_times Quiet times ending lines = lines
+with_times Failures times ending lines = lines
+with_times Transitions times shown.Refused lines = lines
+with_times Transitions times shown.Up lines = timed_text times lines
+with_times Transitions times shown.NotUp lines = timed_text times lines
+
+-- the answer of `status` with the failures of a text and the times of another
+abbrev pub AnswersTimed : (base : List ℕ) → NamedAsk → LiveFile → (log failed times : List ℕ)
+    → Shown → List ℕ → Type 0
+AnswersTimed base ask live log failed times ending text = (lines : List ℕ)
+    × AnswersShown base ask live log failed ending lines
+    × (text ≡ with_times ask.session.verbosity times ending lines)
 
 -- why there is no answer: the text of the database or that of the session is refused, or can't be
 -- read; or out of memory
@@ -149,12 +183,13 @@ IsUnanswered base ask live fault = IsUnspelled (Some base) [] fault
     × IsFileFault (file_named ask.session.live live) d fault) ⊎ (fault ≡ Failed Memory))
 
 -- and what is written then: nothing, or where the writer has failed a prefix of the answer
-abbrev pub FailsStatus : (base : List ℕ) → NamedAsk → LiveFile → (log failed : List ℕ)
+abbrev pub FailsStatus : (base : List ℕ) → NamedAsk → LiveFile → (log failed times : List ℕ)
     → SessionFault → (writer : Type 0) → (written gained : Option (List ℕ)) → Type 0
-FailsStatus base ask live log failed fault writer written gained =
+FailsStatus base ask live log failed times fault writer written gained =
     (IsUnanswered base ask live fault × (gained ≡ written))
     ⊎ ((fault ≡ Failed Write) × writer × ((ending : Shown) × (text : List ℕ)
-    × AnswersShown base ask live log failed ending text × AppendsFront written gained text))
+    × AnswersTimed base ask live log failed times ending text
+    × AppendsFront written gained text))
 
 -- the status of how it ends
 abbrev pub status_of : Shown → ℕ
@@ -163,12 +198,13 @@ status_of shown.NotUp = 3
 status_of shown.Refused = 1
 
 -- the answer was written whole, with the status of how it ends; or a fault is told. Of the failures
--- that are remembered these were read
+-- that are remembered and of the log of commands these were read
 abbrev pub TellsStatus : (base : List ℕ) → NamedAsk → LiveFile → (log : List ℕ) → (status : ℕ)
     → (writer : Type 0) → (written gained before after : Option (List ℕ)) → Type 0
 TellsStatus base ask live log status writer written gained before after =
-    (failed : List ℕ) × (((ending : Shown) × (text : List ℕ)
-    × AnswersShown base ask live log failed ending text
+    (failed : List ℕ) × (times : List ℕ) × (((ending : Shown) × (text : List ℕ)
+    × AnswersTimed base ask live log failed times ending text
     × Appends written gained text × (status ≡ status_of ending) × (after ≡ before))
-    ⊎ ((fault : SessionFault) × FailsStatus base ask live log failed fault writer written gained
+    ⊎ ((fault : SessionFault) × FailsStatus base ask live log failed times fault
+    writer written gained
     × IsTold fault status before after))

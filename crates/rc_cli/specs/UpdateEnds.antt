@@ -15,6 +15,7 @@ use Rattle.rc_dbtext.specs.Base.{Spells}
 use Rattle.rc_cli.specs.Filing.{BeginsBy, CannotKeep, FailsToBegin, IsFileRefused, file_named}
 use Rattle.rc_cli.specs.Controlled.{IsUncontrolledUpdate, LacksController, MovesAhead}
 use Rattle.rc_cli.specs.Finding.{IsFirstUnknown}
+use Rattle.rc_cli.specs.Putting.{Putting}
 use Rattle.rc_cli.specs.Serving.{session_on}
 use Rattle.rc_cli.specs.SessionFaults.{AreAllFound, EndsAs, IsUndone, IsUnspelled}
 use Rattle.rc_cli.specs.declared.sessions.keeping.LiveFile.{LiveFile}
@@ -22,7 +23,7 @@ use Rattle.rc_cli.specs.declared.sessions.session_fault.SessionFault.{SessionFau
 use Rattle.rc_cli.specs.declared.sessions.session_fault.SessionFault.TheVariants.{OfText, Unknown}
 use Rattle.rc_cli.specs.declared.sessions.session_fault.SessionFault.TheVariants.{OfLive, Failed}
 use Rattle.rc_cli.specs.declared.sessions.session_fault.SessionFault.TheVariants.{NoController}
-use Rattle.rc_cli.specs.Updating.{AreDoneFor, IsAhead, Updated, making_on}
+use Rattle.rc_cli.specs.Updating.{AreDoneFor, IsAhead, LeadsFrom, Updated, making_on}
 use Rattle.rc_cli.specs.declared.updating.Ahead.{Ahead}
 use Rattle.rc_session.specs.Holding.{Holding}
 
@@ -124,3 +125,18 @@ Updates old new ask file status was is written gained writer keeper before after
     (λ ended. UpdatesBy ended old new ask file was is written gained writer
     (CannotKeep ask.session file keeper))
     status before after
+
+-- an update from one database to another, all of which is done, has led its store so: from where
+-- the session of the old one begins, through both steps
+abbrev pub LeadsOn : {S : Type 0} → Putting S → (Enters : S → S → Type 0) → UpdateAsk → LiveFile
+    → (old new : Database) → (was is : S) → Type 0
+LeadsOn Put Enters ask file old new was is = (start : Line)
+    × BeginsBy old ask.session.bound (file_named ask.session.live file) start
+    × LeadsFrom Put Enters ask (session_on old start) new was is
+
+-- and so between the databases of two texts
+abbrev pub Leads : {S : Type 0} → Putting S → (Enters : S → S → Type 0) → (old new : List ℕ)
+    → UpdateAsk → LiveFile → (was is : S) → Type 0
+Leads Put Enters old new ask file was is = (from : Database) × (to : Database)
+    × Spells (Some old) [] from [] × Spells (Some new) [] to []
+    × LeadsOn Put Enters ask file from to was is

@@ -19,6 +19,7 @@ use Rattle.rc_args.specs.UpdateAsked.{UpdateAsk}
 use Rattle.rc_script.specs.Says.{saying_of}
 use Rattle.rc_args.specs.Programs.{ByPrograms, ByTable, MakingAsk}
 use Rattle.rc_cli.specs.Once.{ServedOnce, ServesOnce}
+use Rattle.rc_cli.specs.Putting.{LeadsBoth, Putting}
 use Rattle.rc_cli.specs.Services.{IsDoneFor}
 use Rattle.rc_cli.specs.Serving.{session_on}
 use Rattle.rc_cli.specs.Steps.{ended_by, ending_behind, lowering, raising}
@@ -136,3 +137,11 @@ Updated result path was is As At list dry written gained from new = (parts : Par
     × IsUpdate from.database new list from.line parts
     × ServedBoth result path was is As At (lowering dry parts.lower) (raising dry parts.raise)
     written gained from (session_with new parts from)
+
+-- an update from where a session stands, all of which is done, has led its store so
+abbrev pub LeadsFrom : {S : Type 0} → Putting S → (Enters : S → S → Type 0) → UpdateAsk → Holding
+    → Database → (was is : S) → Type 0
+LeadsFrom Put Enters ask from new was is = (parts : Parts)
+    × IsUpdate from.database new ask.conversions from.line parts
+    × LeadsBoth Put Enters ask.session.live (lowering ask.dry parts.lower)
+    (raising ask.dry parts.raise) from (session_with new parts from) was is

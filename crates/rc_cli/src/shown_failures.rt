@@ -1,13 +1,16 @@
 //! What `status` shows of the failures that are remembered.
 ghost use Rattle.std.specs.Prelude.{◌≡◌, ◌++◌, ◌∷◌, [], codes, map, option_map, IfOk, OnOk};
 ghost use Rattle.rc_script.specs.Words.{words_in};
-ghost use Rattle.rc_cli.specs.Failures.{failed_line, failure_at, failure_for, failure_of};
-ghost use Rattle.rc_cli.specs.Failures.{failures_of, plain_line, shown_line, shown_lines};
-ghost use Rattle.rc_cli.specs.Failures.{shown_text};
+ghost use Rattle.rc_cli.specs.Failures.{failed_line, failed_word, failure_at, failure_for};
+ghost use Rattle.rc_cli.specs.Failures.{failure_of, failures_of, is_cut_short, plain_line};
+ghost use Rattle.rc_cli.specs.Failures.{shown_line, shown_lines, shown_text};
 
 use crate::failures::{Failure, add_about, is, lines_of};
 use rc_script::words_of;
 use std::alloc::{AllocError, Global};
+
+/// The outcome of a transition whose command was cut short.
+const CUT_SHORT: &[u8] = b"cut-short";
 
 /// Returns what is shown of a text whose lines have a name and a word each: a service that is down
 /// is shown with its failure, if it has one. If `only`, nothing but failures is shown.
@@ -98,10 +101,31 @@ fn add_failed(shown: &mut Vec<u8>, name: &[u8], failure: &Failure<'_>) -> Result
         ≡ shown.old.items ++ failed_line name.now (failure_of failure.now)) }
 {
     shown.extend_from_slice(name)?;
-    shown.extend_from_slice(b" failed ")?;
+    shown.extend_from_slice(failed_word(failure))?;
     add_about(shown, failure)?;
     shown.push(b'\n')?;
     Ok(())
+}
+
+// Returns the word for a service with a failure.
+fn failed_word(failure: &Failure<'_>) -> &'static [u8]
+    ensures { result.now ≡ failed_word (failure_of failure.now) }
+{
+    if is_cut_short(failure) {
+        b" unknown "
+    } else {
+        b" failed "
+    }
+}
+
+// Returns true if how a transition ended is not known, since its command was cut short.
+fn is_cut_short(failure: &Failure<'_>) -> bool
+    ensures { result ≡ is_cut_short (failure_of failure.now) }
+{
+    match CUT_SHORT.strip_prefix(failure.front) {
+        Some(rest) => is(failure.outcome, rest),
+        None => false,
+    }
 }
 
 // Appends the line of a service without a failure. If `only`, it must have failed in the command

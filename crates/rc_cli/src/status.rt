@@ -11,15 +11,19 @@ ghost use Rattle.rc_args.specs.NamedAsked.{named_ask_of};
 ghost use Rattle.rc_args.specs.SessionAsked.{session_ask_of};
 ghost use Rattle.rc_cli.specs.Filing.{file_named};
 ghost use Rattle.rc_cli.specs.Status.{AnswersAt, AnswersShown, AnswersStatus, AnswersText};
-ghost use Rattle.rc_cli.specs.Status.{AreOfFile, IsShownAs, IsTextOf, IsUnanswered, IsUpAs};
+ghost use Rattle.rc_cli.specs.Status.{AnswersTimed};
+ghost use Rattle.rc_cli.specs.Status.{AreOfFile, IsShownAs, IsShownOf, IsTextOf, IsUnanswered};
+ghost use Rattle.rc_cli.specs.Status.{IsUnheld, IsUpAs};
 ghost use Rattle.rc_cli.specs.Status.{TellsStatus, ending_for, fails, line_of, lines_to};
-ghost use Rattle.rc_cli.specs.Status.{standing_after, standing_word, status_of};
+ghost use Rattle.rc_cli.specs.Status.{standing_after, standing_word, status_of, with_times};
 
-use crate::failed_file::failed_text;
 use crate::failures::listed;
+use crate::remembered::failed_text;
 use crate::sessions::{Devices, LiveFile, SessionFault, begin, spelled, tell_ended};
 use crate::shown_failures::shown_text;
-use rc_args::{NamedRequest, SessionRequest};
+use crate::since::timed_text;
+use log::warn;
+use rc_args::{NamedRequest, SessionRequest, Verbosity};
 use rc_core::{Event, Outcome, Standing};
 use rc_db::{Db, QueryFault};
 use rc_names::Names;
@@ -28,7 +32,9 @@ use rc_render::refusal_text;
 use rc_serve::ServeFault;
 use rc_session::{Refusal, Session};
 use rc_set::{NoMem, Set};
+use rc_streams::command_log;
 use rc_streams::ending::{DONE, REFUSED};
+use rc_streams::messages::{MESSAGE, Messages};
 use rc_streams::writing::write_answer;
 use std::alloc::{AllocError, Global};
 use std::io::Write;
@@ -54,9 +60,18 @@ struct StatusAnswer {
     text: Vec<u8>,
 }
 
+/// What was read beside the file of a session: the text of its failures, and that of the log of its
+/// commands.
+#[derive(Clone, Copy)]
+struct Beside<'a> {
+    failed: &'a [u8],
+    times: &'a [u8],
+}
+
 /// Prints where services stand, and returns the exit status: 0; 3 if a named service is not up, or
 /// if only failures are wanted and there is one; 1 if a name is unknown or a text is refused; 111
-/// for a failure. A service that is down is shown with its failure, if it has one.
+/// for a failure. A service that is down is shown with its failure, if it has one. If the file of
+/// the session does not exist, no service is shown.
 ///
 /// `live` is what stood in the file of the session, and `log` is what stood in its run log. The log
 /// was read first, so the log of a command that has ended since belongs to another text, and says
@@ -80,9 +95,14 @@ pub fn status_as_asked<R, W: Write, F: Write, S>(
 {
     let alloc = rt.alloc();
     let failed = failed_text(rt, request.session.live);
-    let shown = shown_answer(alloc, request, base, live, log, &failed);
-    drop(failed);
-    let answer = match shown {
+    let times = times_text(rt, &request.session);
+    let beside = Beside {
+        failed: &failed,
+        times: &times,
+    };
+    let timed = timed_answer(alloc, request, base, live, log, beside);
+    drop((failed, times));
+    let answer = match timed {
         Ok(answer) => answer,
         Err(fault) => return tell_ended(alloc, &mut devices.faults, Err(fault)),
     };
@@ -94,6 +114,68 @@ pub fn status_as_asked<R, W: Write, F: Write, S>(
         Err(failure) => {
             let fault = SessionFault::Failed(ServeFault::from(failure));
             tell_ended(alloc, &mut devices.faults, Err(fault))
+        }
+    }
+}
+
+// Returns the answer by the text of the database and those beside the file of the session.
+fn timed_answer<'a>(
+    alloc: Global,
+    request: &NamedRequest<'_>,
+    base: &[u8],
+    live: LiveFile<'_>,
+    log: &[u8],
+    beside: Beside<'_>,
+) -> Result<StatusAnswer, SessionFault<'a>>
+    ensures answer { IfOk result (λ answer. AnswersTimed base.now (named_ask_of request.now)
+        live.entry log.now beside.entry.failed.now beside.entry.times.now answer.ending
+        answer.text.items) }
+    ensures none { IfErr result (IsUnanswered base.now (named_ask_of request.now) live.entry) }
+{
+    let answer = match shown_answer(alloc, request, base, live, log, beside.failed) {
+        Ok(answer) => answer,
+        Err(fault) => return Err(fault),
+    };
+    let text = with_times(alloc, &answer, request.session.verbosity, beside.times);
+    let ending = answer.ending;
+    drop(answer);
+    match text {
+        Ok(text) => Ok(StatusAnswer { ending, text }),
+        Err(_) => Err(SessionFault::Failed(ServeFault::Memory)),
+    }
+}
+
+// Returns the lines of an answer, with the times by the log of commands if each transition is
+// reported.
+fn with_times(
+    alloc: Global,
+    answer: &StatusAnswer,
+    verbosity: Verbosity,
+    times: &[u8],
+) -> Result<Vec<u8>, NoMem>
+    ensures { IfOk result (λ text. text.items
+        ≡ with_times verbosity times.now answer.now.ending answer.now.text.items) }
+{
+    match (verbosity, answer.ending) {
+        (Verbosity::Transitions, Shown::Up | Shown::NotUp) => {
+            timed_text(alloc, &answer.text, times)
+        }
+        _ => Vec::from_slice(alloc, &answer.text),
+    }
+}
+
+// Returns the text of the log of the commands on a session, if each transition is reported, and no
+// bytes otherwise. Warns if it can't be read.
+fn times_text(rt: &HostRuntime, request: &SessionRequest<'_>) -> Vec<u8> {
+    let (Some(path), Verbosity::Transitions) = (request.live, request.verbosity) else {
+        return Vec::new(rt.alloc());
+    };
+    match command_log::read(rt, path) {
+        Ok(Some(text)) => text,
+        Ok(None) => Vec::new(rt.alloc()),
+        Err(error) => {
+            warn!(Messages(rt); target: MESSAGE, "{path}.log: {error}: it is left out");
+            Vec::new(rt.alloc())
         }
     }
 }
@@ -126,12 +208,47 @@ fn shown_answer<'a>(
         Ok(answer) => answer,
         Err(fault) => return Err(fault),
     };
-    let shown = with_failures(alloc, &answer, failed, request.failed);
+    let shown = shown_of(alloc, &answer, live, failed, request.failed);
     drop(answer);
     match shown {
         Ok(answer) => Ok(answer),
         Err(_) => Err(SessionFault::Failed(ServeFault::Memory)),
     }
+}
+
+// Returns an answer as it is shown of a file. If the file does not exist, no service is shown.
+fn shown_of(
+    alloc: Global,
+    answer: &StatusAnswer,
+    live: LiveFile<'_>,
+    failed: &[u8],
+    only: bool,
+) -> Result<StatusAnswer, NoMem>
+    ensures { IfOk result (λ shown. IsShownOf live.entry only failed.now answer.now.ending
+        answer.now.text.items shown.ending shown.text.items) }
+{
+    match live {
+        LiveFile::Missing => unheld(alloc, answer, only),
+        LiveFile::Text(_) | LiveFile::Unread(_) => with_failures(alloc, answer, failed, only),
+    }
+}
+
+// Returns an answer of a session whose file does not exist. If `only`, nothing but failures is
+// shown, and there is none.
+fn unheld(alloc: Global, answer: &StatusAnswer, only: bool) -> Result<StatusAnswer, NoMem>
+    ensures { IfOk result (λ shown. IsUnheld only answer.now.ending answer.now.text.items
+        shown.ending shown.text.items) }
+{
+    let ending = answer.ending;
+    if matches!(ending, Shown::Refused) {
+        let text = Vec::from_slice(alloc, &answer.text)?;
+        return Ok(StatusAnswer { ending, text });
+    }
+    let ending = if only { Shown::Up } else { ending };
+    Ok(StatusAnswer {
+        ending,
+        text: Vec::new(alloc),
+    })
 }
 
 // Returns an answer as it is shown with the failures of a text. If `only`, nothing but failures is

@@ -3,7 +3,7 @@ ghost use Rattle.std.specs.Prelude.{◌≡◌};
 ghost use Rattle.rc_streams.specs.Noting.{HasFailed, inner_of};
 ghost use Rattle.rc_args.specs.UpdateAsked.{update_ask_of};
 ghost use Rattle.rc_cli.specs.Storing.{store_of};
-ghost use Rattle.rc_cli.specs.UpdateEnds.{Updates};
+ghost use Rattle.rc_cli.specs.UpdateEnds.{Leads, Updates};
 
 use crate::sessions::{Devices, Host, LiveFile, Store, spelled, tell_ended};
 use crate::updating::update_on;
@@ -42,6 +42,12 @@ pub fn update_as_asked<T: Threads + Wait + Sync, R, W: Write, F: Write, S: Store
         (W.contents (inner_of devices.new.outputs.writer))
         (HasFailed devices.new.outputs.writer) (S.failed (store_of devices.new.outputs.keeper))
         (F.contents devices.old.faults) (F.contents devices.new.faults) }
+
+    // With status 0, the store is led so: the text of where the old session stands, the one that
+    // the first step leaves, that an update has entered its database, and the same of the second
+    // step.
+    ensures led { result ≡ 0 → Leads S.put S.entered old.now new.now (update_ask_of request.now)
+        live.entry (store_of devices.old.outputs.keeper) (store_of devices.new.outputs.keeper) }
     ensures unread { devices.new.reader ≡ devices.old.reader }
 {
     let from = match spelled(host.alloc, Some(old), &[]) {

@@ -1,7 +1,7 @@
 //! The two steps of an update: how their transitions are made, what they move, and that they are
 //! kept.
 ghost use Rattle.std.specs.Prelude.{◌≡◌, ◌≢◌, ◌≤◌, ◌++◌, ℕ, List, [], None, false, length, map};
-ghost use Rattle.std.specs.Prelude.{IfErr, IfOk, MatchOption, OnOk};
+ghost use Rattle.std.specs.Prelude.{IfErr, IfOk, MatchOption, Ok, OnOk};
 ghost use Rattle.rc_graph.specs.declared.Way.TheVariants.{Lower, Raise};
 ghost use Rattle.rc_model.specs.Graph.{IsClosed};
 ghost use Rattle.rc_model.specs.Names.{Has};
@@ -9,6 +9,7 @@ ghost use Rattle.rc_streams.specs.Noting.{HasFailed, inner_of};
 ghost use Rattle.rc_script.specs.Says.{saying_of};
 ghost use Rattle.rc_serve.specs.Ending.{IsDoneAs};
 ghost use Rattle.rc_serve.specs.Faults.{IsServeFault};
+ghost use Rattle.rc_serve.specs.declared.ending.Ending.TheVariants.{Done};
 ghost use Rattle.rc_args.specs.Making.{making_ask_of};
 ghost use Rattle.rc_args.specs.OnceAsked.{Said};
 ghost use Rattle.rc_args.specs.Reading.{listed_of};
@@ -16,6 +17,7 @@ ghost use Rattle.rc_args.specs.SessionAsked.{session_ask_of};
 ghost use Rattle.rc_args.specs.UpdateAsked.{update_ask_of};
 ghost use Rattle.rc_cli.specs.Filing.{CannotKeep};
 ghost use Rattle.rc_cli.specs.Gating.{IsGateFor, IsGateless};
+ghost use Rattle.rc_cli.specs.Putting.{LeadsBoth};
 ghost use Rattle.rc_cli.specs.Serving.{session_on};
 ghost use Rattle.rc_cli.specs.Steps.{ended_by, ending_behind};
 ghost use Rattle.rc_cli.specs.Storing.{store_of};
@@ -24,7 +26,7 @@ ghost use Rattle.rc_update.specs.Knowing.{AreKnown, IsFirstStranger};
 ghost use Rattle.rc_cli.specs.Updating.{IsAhead, ServedBoth, carried_line, listed_by, listed_on};
 ghost use Rattle.rc_cli.specs.Updating.{making_on};
 ghost use Rattle.rc_cli.specs.Controlled.{LacksController, MovesAhead};
-ghost use Rattle.rc_cli.specs.UpdateEnds.{AreGateless, IsNoneAhead, UpdatesOn};
+ghost use Rattle.rc_cli.specs.UpdateEnds.{AreGateless, IsNoneAhead, LeadsOn, UpdatesOn};
 
 use crate::controlled::uncontrolled_step;
 use crate::moving::update_of;
@@ -82,6 +84,8 @@ pub(crate) fn update_on<'a, T: Threads + Wait + Sync, W: Write, S: Store, L: Log
         (W.contents (inner_of outputs.old.writer)) (W.contents (inner_of outputs.new.writer))
         (HasFailed outputs.new.writer) (CannotKeep (session_ask_of request.now.session) live.entry
         (S.failed (store_of outputs.new.keeper))) }
+    ensures led { result ≡ Ok Done → LeadsOn S.put S.entered (update_ask_of request.now)
+        live.entry old new (store_of outputs.old.keeper) (store_of outputs.new.keeper) }
 {
     live_laws::spelling_is_unique();
     let _names = old.names();
@@ -318,6 +322,9 @@ fn serve_both<T: Threads + Wait + Sync, W: Write, G: Gate, S: Store, L>(
         from.old ahead.old.to }
     ensures fault { IfErr result (IsServeFault ⊥ (HasFailed outputs.new.writer)
         (((session_ask_of request.now).live ≢ None) × S.failed (store_of outputs.new.keeper))) }
+    ensures led { result ≡ Ok Done → LeadsBoth S.put S.entered (session_ask_of request.now).live
+        (Said (saying_of ahead.old.lowering)) (Said (saying_of ahead.old.raising))
+        from.old ahead.old.to (store_of outputs.old.keeper) (store_of outputs.new.keeper) }
 {
     match line_once(host, request, from, &gates.lowers, &ahead.lowering, outputs) {
         Ok(Ending::Done) => {

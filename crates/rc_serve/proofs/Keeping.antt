@@ -2,6 +2,7 @@
 -- state has.
 use Rattle.std.proofs.Common.{◌≡◌, ◌≢◌, ◌∙◌, ◌⊎◌, ◌↔◌, inl, inr, ℕ, Bool, List, [], ◌∷◌, ◌++◌}
 use Rattle.std.proofs.Common.{Option, Some, None, Result, Ok, Err, IfErr, IfOk, IsTrue, true, false}
+use Rattle.std.proofs.Common.{OnOk}
 use Rattle.std.proofs.Common.{refl, ap, sym, subst, append_assoc, length}
 use Rattle.std.specs.Prelude.{MatchOption, MatchResult}
 use Rattle.rc_graph.specs.declared.Way.{Way}
@@ -24,7 +25,7 @@ use Rattle.rc_script.specs.Says.{SaysBundles, SaysJournal}
 use Rattle.rc_serve.specs.declared.ending.Answer.{Answer}
 use Rattle.rc_serve.specs.Faults.{EndsSession, IsSpoiledBy, Spoils}
 use Rattle.rc_serve.specs.Keeping.{Keeping, IsBefore, IsKeptAs, IsKeptOn, IsKeptUp, IsOfKeeping}
-use Rattle.rc_serve.specs.Keeping.{IsStill, of_keeping}
+use Rattle.rc_serve.specs.Keeping.{IsKeptOnce, IsStill, of_keeping}
 use Rattle.rc_serve.specs.Meeting.{IsDoneBy, MayMeet, MayMeetSaying}
 
 -- where a line ends the session, what it leaves is kept, or keeping it has failed, and what was
@@ -195,6 +196,24 @@ pub other_as : (before : Option (List Bool × Bundles)) (live : List Bool) (tabl
     → test ≡ false → IsStill before line → ⊥
 other_as before live table line test is so other still =
     let bad : true ≡ false = sym (so.1 ((still_as before live table line is).1 still)) ∙ other in cc
+
+-- what holds also holds where there is an answer
+pub on_ok : {A E : Type 0} (P : Type 0) (result : Result A E) → P → OnOk result P
+on_ok P (Ok a) holds = holds
+on_ok P (Err e) holds = tt
+
+-- a line that is not altered is not kept again, and one that is altered is kept
+pub kept_once : {S : Type 0} (Went : S → Database → Line → S → Type 0)
+    (before : Option (List Bool × Bundles)) (saying : Saying) (d e : Database) (here line : Line)
+    (was is : S) → IsBefore before saying here → e ≡ d → (IsStill before line → line ≡ here)
+    → (IsStill before line × (is ≡ was)) ⊎ ((IsStill before line → ⊥) × Went was e line is)
+    → IsKeptOnce Went d here line was is
+kept_once Went before saying d e here line was is begins same still (inl (on, unkept)) =
+    inl (still on, unkept)
+kept_once Went before saying d e here line was is begins same still (inr (altered, went)) = inr (
+  is_altered before saying here line begins altered,
+  subst (λ (b : Database). Went was b line is) same went,
+)
 
 -- both live sets are of the same services
 pub same_size : (before : Option (List Bool × Bundles)) (saying : Saying) (d e : Database)

@@ -1,5 +1,5 @@
 -- What a keeper keeps, and what is kept as a session goes on.
-use Rattle.std.specs.Prelude.{◌≡◌, ◌⊎◌, ◌↔◌, ℕ, Bool, List, Option, Some, None, Result, Err}
+use Rattle.std.specs.Prelude.{◌≡◌, ◌≢◌, ◌⊎◌, ◌↔◌, ℕ, Bool, List, Option, Some, None, Result, Err}
 use Rattle.std.specs.Io.KnownBytes.{Consumes}
 use Rattle.rc_streams.specs.Exchange.{Exchange}
 use Rattle.rc_model.specs.Database.{Bundles, Database}
@@ -27,6 +27,12 @@ IsKeptOn was is = (d : Database) (line : Line) → was d line ↔ is d line
 -- the line of states is kept; or it is the one that it was, and so is what is kept
 abbrev pub IsKeptUp : (was is : Keeping) → Database → (here line : Line) → Type 0
 IsKeptUp was is d here line = is d line ⊎ (IsKeptOn was is × (line ≡ here))
+
+-- a line of states that is as it was is not kept again; one that was altered is, once
+abbrev pub IsKeptOnce : {S : Type 0} → (Went : S → Database → Line → S → Type 0) → Database
+    → (here line : Line) → (was is : S) → Type 0
+IsKeptOnce Went d here line was is = ((line ≡ here) × (is ≡ was))
+    ⊎ ((line ≢ here) × Went was d line is)
 
 -- a fault of keeping, as it is told
 abbrev pub of_keeping : KeepFault → ServeFault

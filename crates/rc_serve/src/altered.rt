@@ -1,5 +1,6 @@
 //! Keeps what a command has altered.
 ghost use Rattle.std.specs.Prelude.{◌≡◌, ◌⊎◌, ◌↔◌, false, length, IsTrue, IfOk, MatchOption};
+ghost use Rattle.std.specs.Prelude.{OnOk};
 ghost use Rattle.rc_script.specs.Says.{saying_of};
 ghost use Rattle.rc_serve.specs.Keeping.{IsBefore, IsKeptAs, IsStill};
 
@@ -52,6 +53,9 @@ pub(crate) fn keep_altered<T, K: Keeper, G: Gate>(
         ⊎ ((IsStill before.now session.now.line → ⊥) × IsKeptAs answer result K.fails
         (K.failed keeper.new) (K.keeps keeper.old) (K.keeps keeper.new)
         session.now.database session.now.line) }
+    ensures led { OnOk result ((IsStill before.now session.now.line × (keeper.new ≡ keeper.old))
+        ⊎ ((IsStill before.now session.now.line → ⊥)
+        × K.went keeper.old session.now.database session.now.line keeper.new)) }
 {
     let Some((live, table)) = before else {
         return answer;

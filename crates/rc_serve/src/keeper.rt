@@ -30,11 +30,16 @@ pub trait Keeper {
     /// States that the keeper has failed.
     ghost failed: { Self → Type 0 };
 
+    /// States that keeping this line of states of a database has led from one keeper to another.
+    ghost went: { Self → Database → Line → Self → Type 0 };
+
     /// Keeps the line of states as it stands, in place of what was kept. If that fails, what was
     /// kept before is still kept, or the line is.
     fn keep(&mut self, alloc: Global, session: &Session) -> Result<(), KeepFault>
         requires { session.now.begun ≡ false }
         ensures kept { OnOk result (keeps self.new session.now.database session.now.line) }
+        ensures led { OnOk result
+            (went self.old session.now.database session.now.line self.new) }
         ensures left { OnErr result (IsKeptOn (keeps self.old) (keeps self.new)
             ⊎ keeps self.new session.now.database session.now.line) }
         ensures fault { IfErr result fails }
@@ -51,6 +56,8 @@ impl Keeper for Unkept {
     ghost fails = { λ fault. ⊥ };
 
     ghost failed = { λ keeper. ⊥ };
+
+    ghost went = { λ old d line new. Unit {0} };
 
     fn keep(&mut self, _alloc: Global, _session: &Session) -> Result<(), KeepFault> {
         Ok(())

@@ -7,7 +7,7 @@ ghost use Rattle.rc_board.specs.Crew.{IsCrew};
 ghost use Rattle.rc_script.specs.Says.{saying_of};
 ghost use Rattle.rc_serve.specs.Ending.{ArrivesSaying, Ends, IsDoneAs, StopsOnce};
 ghost use Rattle.rc_serve.specs.Faults.{IsOfAnswer, IsServeFault, IsSpoiledBy};
-ghost use Rattle.rc_serve.specs.Keeping.{IsKeptUp};
+ghost use Rattle.rc_serve.specs.Keeping.{IsKeptOnce, IsKeptUp};
 ghost use Rattle.rc_serve.specs.Meeting.{IsDoneBy};
 ghost use Rattle.rc_serve.specs.Serving.{Stays};
 ghost use Rattle.rc_serve.specs.declared.ending.Ending.TheVariants.{Done};
@@ -55,6 +55,10 @@ pub fn answer_once<T: Threads + Wait + Sync, W: Write, K: Keeper, G: Gate>(
     ensures kept { OnOk result (IsKeptUp (K.keeps keeper.old) (K.keeps keeper.new)
         session.old.database session.old.line session.new.line) }
     ensures unaltered { session.new.line ≡ session.old.line → keeper.new ≡ keeper.old }
+
+    // It is kept once where it was altered, and else not at all.
+    ensures led { OnOk result (IsKeptOnce K.went session.old.database session.old.line
+        session.new.line keeper.old keeper.new) }
 
     // A fault comes as in a session. Nothing of an answer is written before the line is kept.
     ensures stopped { IfErr result (λ fault. StopsOnce

@@ -16,7 +16,8 @@ use rc_runner::{SessionGate, ShellGate, Telling};
 use rc_serve::ServeFault;
 
 /// Creates the gate that makes the transitions of a database as its options say. `host` starts its
-/// programs. If each transition is reported, what the programs write is shown.
+/// programs. If each transition is reported, what the programs write is shown. If there is a
+/// directory for it, it is kept there.
 pub fn gate_for<'h, 'a, T, L: Log + Sync>(
     host: &Host<'h, T, L>,
     db: &Db,
@@ -25,7 +26,8 @@ pub fn gate_for<'h, 'a, T, L: Log + Sync>(
 ) -> Result<Telling<'h, L, Remembering<'h, SessionGate<'h, HostRuntime, L>>>, SessionFault<'a>>
     ensures made { IfOk result (λ gate. IsGateFor db.now (making_ask_of making.now) gate) }
     ensures files { IfOk result
-        (IsOnFiles verbosity (option_map (λ files. files.now) host.now.run_files)) }
+        (IsOnFiles verbosity host.now.outputs
+        (option_map (λ files. files.now) host.now.run_files)) }
     ensures fault { IfErr result (IsGateless db.now (making_ask_of making.now)) }
 {
     let gate = match quiet_gate(host, db, making, verbosity) {
@@ -33,7 +35,7 @@ pub fn gate_for<'h, 'a, T, L: Log + Sync>(
         Err(fault) => return Err(fault),
     };
     let gate = Remembering::new(host.runtime, host.remembers, gate);
-    match Telling::new(host.runtime, host.log, host.alloc, db, gate) {
+    match Telling::new(host.runtime, host.log, host.alloc, db, gate, host.outputs) {
         Ok(gate) => Ok(gate),
         Err(_) => Err(SessionFault::Failed(ServeFault::Memory)),
     }
@@ -49,7 +51,8 @@ fn quiet_gate<'h, 'a, T, L: Log + Sync>(
 ) -> Result<SessionGate<'h, HostRuntime, L>, SessionFault<'a>>
     ensures made { IfOk result (λ gate. IsGateFor db.now (making_ask_of making.now) gate) }
     ensures files { IfOk result
-        (IsOnFiles verbosity (option_map (λ files. files.now) host.now.run_files)) }
+        (IsOnFiles verbosity host.now.outputs
+        (option_map (λ files. files.now) host.now.run_files)) }
     ensures fault { IfErr result (IsGateless db.now (making_ask_of making.now)) }
 {
     match making {
@@ -65,7 +68,8 @@ fn quiet_gate<'h, 'a, T, L: Log + Sync>(
 }
 
 // Creates the gate that runs the given programs. If each transition is reported, what the programs
-// write is shown. If there is a file for it, what is done is logged.
+// write is shown, and kept if there is a directory for it. If there is a file for it, what is done
+// is logged.
 fn shell_gate<'h, T, L: Log + Sync>(
     host: &Host<'h, T, L>,
     db: &Db,
@@ -77,6 +81,7 @@ fn shell_gate<'h, T, L: Log + Sync>(
         (controller_in (option_map (λ text. text.now) programs.now.controller))
         programs.now.limit) }
     ensures shows { IfOk result (λ gate. gate.shows ≡ shows_writes verbosity) }
+    ensures outputs { IfOk result (λ gate. gate.outputs ≡ host.now.outputs) }
     ensures log { IfOk result (λ gate. gate.log
         ≡ option_map (λ files. files.now.log) host.now.run_files) }
     ensures stop { IfOk result (λ gate. gate.stop
@@ -90,6 +95,10 @@ fn shell_gate<'h, T, L: Log + Sync>(
     let gate = match verbosity {
         Verbosity::Transitions => gate.with_errors(host.runtime.stderr()),
         Verbosity::Failures | Verbosity::Quiet => gate,
+    };
+    let gate = match host.outputs {
+        Some(outputs) => gate.with_outputs(outputs),
+        None => gate,
     };
     match host.run_files {
         Some(files) => gate

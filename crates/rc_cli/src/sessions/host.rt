@@ -1,11 +1,13 @@
 //! What a session runs on.
+use rc_streams::output_folder::OutputFolder;
 use rc_streams::run_file::{self, RunFile};
 use rc_streams::stop_file::{self, StopFile};
 use std::alloc::Global;
 
 /// What a session runs on: the threads of its workers, the runtime that starts programs, the log
 /// that takes messages, the files of its runs, if it has any, the path of the file whose failures
-/// are remembered, if there is one, and memory.
+/// are remembered, if there is one, the directory that keeps what programs write, if there is one,
+/// and memory.
 #[derive(Drop)]
 pub struct Host<'h, T, L> {
     pub threads: &'h T,
@@ -13,6 +15,7 @@ pub struct Host<'h, T, L> {
     pub log: &'h L,
     pub run_files: Option<&'h RunFiles>,
     pub remembers: Option<&'h str>,
+    pub outputs: Option<OutputFolder<'h>>,
     pub alloc: Global,
 }
 

@@ -1,6 +1,7 @@
 //! Where a session is kept: a store of one text, which is replaced whole.
 ghost use Rattle.std.specs.Prelude.{◌≡◌, ◌⊎◌, ℕ, false, List, Option, IfSome, IfErr, IsSome, OnErr};
 ghost use Rattle.std.specs.Prelude.{OnOk};
+ghost use Rattle.rc_livetext.specs.Spelling.{spelling};
 ghost use Rattle.rc_serve.specs.declared.keeper.KeepFault.TheVariants.{Io};
 ghost use Rattle.rc_cli.specs.Storing.{HoldsText, kept_bytes, store_of};
 
@@ -45,10 +46,17 @@ pub trait Store {
     /// States that the store has failed.
     ghost failed: { Self → Type 0 };
 
+    /// States that putting this text into the one store has left the other.
+    ghost put: { Self → List ℕ → Self → Type 0 };
+
+    /// States that the announcement of an update in the one store has left the other.
+    ghost entered: { Self → Self → Type 0 };
+
     /// Replaces what the store holds by the given text. If that fails, the store holds its old text
     /// or the new one. If the bytes of a store can be said, they still can be afterwards.
     fn replace(&mut self, text: KeptText<'_>) -> Result<(), KeepFault>
         ensures put { OnOk result (IfSome (holds self.new) (λ held. held ≡ kept_bytes text.entry)) }
+        ensures led { OnOk result (put self.old (kept_bytes text.entry) self.new) }
         ensures known { IsSome (holds self.old) → IsSome (holds self.new) }
         ensures left { OnErr result ((holds self.new ≡ holds self.old)
             ⊎ IfSome (holds self.new) (λ held. held ≡ kept_bytes text.entry)) }
@@ -57,7 +65,8 @@ pub trait Store {
     /// Announces that each text from now on is of a session on the new database of an update. What
     /// the store holds stays until then.
     fn enter(&mut self)
-        ensures same { holds self.new ≡ holds self.old };
+        ensures same { holds self.new ≡ holds self.old }
+        ensures led { entered self.old self.new };
 }
 
 /// Keeps the text of a session in a store.
@@ -77,6 +86,7 @@ impl<S: Store> TextKeeper<S> {
     /// Announces that each session from now on is on the new database of an update.
     pub(crate) fn enter(&mut self)
         ensures same { S.holds (store_of self.new) ≡ S.holds (store_of self.old) }
+        ensures led { S.entered (store_of self.old) (store_of self.new) }
     {
         self.store.enter();
     }
@@ -97,10 +107,14 @@ impl<S: Store> Keeper for TextKeeper<S> {
 
     ghost failed = { λ k. S.failed k.store };
 
+    ghost went = { λ old d line new. S.put old.store (spelling d line) new.store };
+
     fn keep(&mut self, alloc: Global, session: &Session) -> Result<(), KeepFault>
         requires { session.now.begun ≡ false }
         ensures kept { OnOk result (HoldsText (S.holds (store_of self.new))
             session.now.database session.now.line) }
+        ensures led { OnOk result (S.put (store_of self.old)
+            (spelling session.now.database session.now.line) (store_of self.new)) }
         ensures known { IsSome (S.holds (store_of self.old)) →
             IsSome (S.holds (store_of self.new)) }
         ensures left { OnErr result ((S.holds (store_of self.new) ≡ S.holds (store_of self.old))

@@ -6,7 +6,7 @@ ghost use Rattle.rc_streams.specs.Noting.{HasFailed, inner_of};
 ghost use Rattle.rc_dbtext.specs.Base.{Spells, bytes_of};
 ghost use Rattle.rc_dbtext.specs.Opening.{Reads};
 ghost use Rattle.rc_args.specs.SessionAsked.{session_ask_of};
-ghost use Rattle.rc_cli.specs.Launching.{Launches};
+ghost use Rattle.rc_cli.specs.Launching.{Launches, LeadsLaunched};
 ghost use Rattle.rc_cli.specs.Session.{asked_with, dealt};
 ghost use Rattle.rc_cli.specs.SessionFaults.{IsEndTold, IsUnserved, IsUnspelled, reading_fault};
 ghost use Rattle.rc_cli.specs.SessionFaults.{serve_word, session_end, status_of};
@@ -64,6 +64,12 @@ pub fn launch<T: Threads + Wait + Sync, R: Read, W: Write, F: Write, S: Store, L
         (HasFailed devices.new.reader) (HasFailed devices.new.outputs.writer)
         (S.failed (store_of devices.new.outputs.keeper))
         (F.contents devices.old.faults) (F.contents devices.new.faults) }
+
+    // With status 0, one line or a restart has led the store so.
+    ensures led { result ≡ 0 → LeadsLaunched S.put service.entry
+        (asked_with (session_ask_of request.now) (bytes_of base.entry) live.entry)
+        (R.remaining (inner_of devices.old.reader)) (R.remaining (inner_of devices.new.reader))
+        (store_of devices.old.outputs.keeper) (store_of devices.new.outputs.keeper) }
 
     // Where the reader has failed, that is the cause that is reported.
     ensures cause { HasFailed devices.new.reader → (result ≡ 111)

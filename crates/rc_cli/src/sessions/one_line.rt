@@ -8,6 +8,7 @@ ghost use Rattle.rc_serve.specs.Serving.{Stays};
 ghost use Rattle.rc_args.specs.OnceAsked.{Said, once_saying_of};
 ghost use Rattle.rc_args.specs.SessionAsked.{session_ask_of};
 ghost use Rattle.rc_cli.specs.Once.{IsCommand, ServedOnce};
+ghost use Rattle.rc_cli.specs.Putting.{PutsLine};
 ghost use Rattle.rc_cli.specs.Storing.{store_of};
 
 use crate::sessions::host::Host;
@@ -44,6 +45,9 @@ pub(crate) fn serve_once<T: Threads + Wait + Sync, W: Write, G: Gate, S: Store, 
         session.old session.new }
     ensures fault { IfErr result (IsServeFault ⊥ (HasFailed outputs.new.writer)
         (((session_ask_of request.now).live ≢ None) × S.failed (store_of outputs.new.keeper))) }
+    ensures led { OnOk result (PutsLine S.put (session_ask_of request.now).live
+        session.old.database (once_saying_of once.now) session.old.line session.new.line
+        (store_of outputs.old.keeper) (store_of outputs.new.keeper)) }
 {
     match once {
         Once::DryUndo => show_undo(host.alloc, session, &mut outputs.writer),
@@ -75,6 +79,11 @@ pub fn line_once<T: Threads + Wait + Sync, W: Write, G: Gate, S: Store, L>(
         session.old session.new }
     ensures fault { IfErr result (IsServeFault ⊥ (HasFailed outputs.new.writer)
         (((session_ask_of request.now).live ≢ None) × S.failed (store_of outputs.new.keeper))) }
+
+    // A command is put where the session stands before it is done, and again where it alters that.
+    ensures led { OnOk result (PutsLine S.put (session_ask_of request.now).live
+        session.old.database (Said (saying_of said.now)) session.old.line session.new.line
+        (store_of outputs.old.keeper) (store_of outputs.new.keeper)) }
     ensures sound { OnOk result (HasFailed outputs.new.writer → ⊥) }
     ensures stays { Stays session.old session.new }
     ensures whole { OnOk result (session.new.spoiled ≡ false) }

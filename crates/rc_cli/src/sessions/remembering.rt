@@ -1,10 +1,11 @@
 //! A gate that has the failures of its transitions remembered.
 ghost use Rattle.std.specs.Prelude.{◌≡◌};
 
-use crate::failed_file::{is_there, remember_run};
+use crate::remembered::remember_run;
 use rc_board::Gate;
 use rc_core::{Job, Outcome};
 use rc_session::{Command, Session};
+use rc_streams::failed_file::is_there;
 use std::marker::Model;
 use std::sync::atomic::{AtomicBool, Ordering};
 

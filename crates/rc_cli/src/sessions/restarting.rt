@@ -1,6 +1,7 @@
 //! A restart: services go down with all that depends on them, and what went down comes up again.
 ghost use Rattle.std.specs.Prelude.{◌≡◌, ◌≢◌, ◌↔◌, None, false, length, map, string_bytes, IfErr};
-ghost use Rattle.std.specs.Prelude.{IsTrue};
+ghost use Rattle.std.specs.Prelude.{IsTrue, Ok, OnOk};
+ghost use Rattle.rc_serve.specs.declared.ending.Ending.TheVariants.{Done};
 ghost use Rattle.rc_serve.specs.Ending.{IsDoneAs};
 ghost use Rattle.rc_serve.specs.Faults.{IsServeFault};
 ghost use Rattle.rc_streams.specs.Noting.{HasFailed, inner_of};
@@ -8,7 +9,8 @@ ghost use Rattle.rc_script.specs.Says.{saying_of};
 ghost use Rattle.rc_args.specs.OnceAsked.{Said};
 ghost use Rattle.rc_args.specs.SessionAsked.{session_ask_of};
 ghost use Rattle.rc_cli.specs.Once.{ServedOnce};
-ghost use Rattle.rc_cli.specs.Restarting.{Restarted, coming_back, ending_with};
+ghost use Rattle.rc_cli.specs.Putting.{PutsLine};
+ghost use Rattle.rc_cli.specs.Restarting.{LeadsBack, Restarted, coming_back, ending_with};
 ghost use Rattle.rc_cli.specs.Steps.{lowering};
 ghost use Rattle.rc_cli.specs.Storing.{store_of};
 
@@ -57,6 +59,9 @@ pub(crate) fn restart_in<T: Threads + Wait + Sync, W: Write, G: Gate, S: Store, 
         session.old }
     ensures fault { IfErr result (IsServeFault ⊥ (HasFailed outputs.new.writer)
         (((session_ask_of request.now).live ≢ None) × S.failed (store_of outputs.new.keeper))) }
+    ensures led { result ≡ Ok Done → LeadsBack S.put (session_ask_of request.now).live
+        (lowering false (map string_bytes names.now)) session.old.database session.old.line
+        (store_of outputs.old.keeper) (store_of outputs.new.keeper) }
 {
     let Ok(before) = session.live().copy(host.alloc) else {
         return Err(ServeFault::Memory);
@@ -93,6 +98,9 @@ fn serve_steps<T: Threads + Wait + Sync, W: Write, G: Gate, S: Store, L>(
         session.old }
     ensures fault { IfErr result (IsServeFault ⊥ (HasFailed outputs.new.writer)
         (((session_ask_of request.now).live ≢ None) × S.failed (store_of outputs.new.keeper))) }
+    ensures led { result ≡ Ok Done → LeadsBack S.put (session_ask_of request.now).live
+        (Said (saying_of first.now.line)) session.old.database session.old.line
+        (store_of outputs.old.keeper) (store_of outputs.new.keeper) }
 {
     let _states = session.journal();
     let lowered = match line_once(host, request, session, gate, &first.line, outputs) {
@@ -127,6 +135,9 @@ fn come_back<T: Threads + Wait + Sync, W: Write, G: Gate, S: Store, L>(
         session.old session.new }
     ensures fault { IfErr result (IsServeFault ⊥ (HasFailed outputs.new.writer)
         (((session_ask_of request.now).live ≢ None) × S.failed (store_of outputs.new.keeper))) }
+    ensures led { OnOk result (PutsLine S.put (session_ask_of request.now).live
+        session.old.database coming_back session.old.line session.new.line
+        (store_of outputs.old.keeper) (store_of outputs.new.keeper)) }
 {
     let back = SessionLine::Command(Command::Undo(u32::MAX));
     let raised = line_once(host, request, session, gate, &back, outputs);

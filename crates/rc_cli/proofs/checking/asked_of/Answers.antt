@@ -1,4 +1,4 @@
-use Rattle.std.proofs.Common.{◌∙◌, ap, length, map, subst, sym}
+use Rattle.std.proofs.Common.{map, subst}
 use Rattle.std.specs.String.{string_bytes}
 use Rattle.rc_model.specs.Names.{Has, Holds}
 use Rattle.rc_model.specs.Database.{Database, IsKind}
@@ -7,12 +7,15 @@ use Rattle.rc_cli.specs.Checking.{IsMeant}
 use Rattle.rc_cli.proofs.CheckingLemmas.{asked_among}
 use Rattle.rc_cli.proofs.checking.asked_of.Goals as goal
 
-pub returns-in-Ok-asked-clause-members : goal.returns-in-Ok-asked-clause-members
-returns-in-Ok-asked-clause-members c =
-    let d = c.args.session.now.database in
-    asked_among c.in-Ok-asked.asked c.in-Ok.wanted
-    (IsMeant d c.args.session.now.line.current.table (map string_bytes c.args.names.now))
-    (λ s. IsKind d s Longrun) c.in-Ok.ensures.members
-    (subst (λ (x : Database). Holds c.in-Ok-asked.asked
-    (λ s. Has c.in-Ok.wanted s × IsKind x s Longrun)) c.db.ensures.db
-    c.in-Ok-asked.ensures.members)
+pub returns-in-Ok-longruns_of-clause-members : goal.returns-in-Ok-longruns_of-clause-members
+returns-in-Ok-longruns_of-clause-members c =
+    let d = c.args.session.now.database in record {
+      meant = c.in-Ok.ensures.members;
+      among =
+          asked_among c.in-Ok-longruns_of.longruns c.in-Ok.all
+          (IsMeant d c.args.session.now.line.current.table (map string_bytes c.args.names.now))
+          (λ s. IsKind d s Longrun) c.in-Ok.ensures.members
+          (subst (λ (x : Database). Holds c.in-Ok-longruns_of.longruns
+          (λ s. Has c.in-Ok.all s × IsKind x s Longrun)) c.db.ensures.db
+          c.in-Ok-longruns_of.ensures.members);
+    }

@@ -4,6 +4,7 @@ use Rattle.std.specs.String.{string_bytes}
 use Rattle.rc_model.specs.Database.{Database}
 use Rattle.rc_session.proofs.States.{current_state}
 use Rattle.rc_args.specs.NamedAsked.{named_ask_of}
+use Rattle.rc_cli.specs.Checking.{finding_of}
 use Rattle.rc_cli.proofs.CheckingLemmas.{known_answer, unknown_word, unmet_answer, with_ok}
 use Rattle.rc_cli.proofs.checking.session_answer.Goals as goal
 
@@ -19,8 +20,8 @@ returns-in-Ok-clause-answer c =
     IfOk-weaker c.asked_answer-answer.result _ _
     (λ answer said. known_answer c.args.session.now.database c.db-db.result.now
     c.args.session.now.line (named_ask_of c.args.request.now)
-    (map string_bytes c.deref.result.now) c.in-Ok.asked c.live.result.now answer.status
-    answer.text.items c.db-db.ensures.db c.live.ensures
+    (map string_bytes c.deref.result.now) c.in-Ok.asked.longruns c.in-Ok.asked.all
+    c.live.result.now (finding_of answer) c.db-db.ensures.db c.live.ensures
     (ap (map string_bytes) c.deref.ensures.value) c.in-Ok.ensures.members c.in-Ok.ensures.known
     said.0 said.1)
     (with_ok c.asked_answer-answer.result _ _ c.asked_answer-answer.ensures.answer
@@ -31,7 +32,8 @@ returns-in-Ok-clause-none c =
     IfErr-weaker c.asked_answer-answer.result _ _
     (λ fault unasked. unmet_answer c.args.session.now.database c.db-db.result.now
     c.args.session.now.line (named_ask_of c.args.request.now)
-    (map string_bytes c.deref.result.now) c.in-Ok.asked fault c.db-db.ensures.db
+    (map string_bytes c.deref.result.now) c.in-Ok.asked.longruns c.in-Ok.asked.all fault
+    c.db-db.ensures.db
     (ap (map string_bytes) c.deref.ensures.value) c.in-Ok.ensures.members c.in-Ok.ensures.known
     unasked)
     c.asked_answer-answer.ensures.none
@@ -41,7 +43,7 @@ returns-in-Err-Unknown-clause-answer c =
     IfOk-weaker c.unknown_answer.result _ _
     (λ answer told. unknown_word c.args.session.now.database c.args.session.now.line
     (named_ask_of c.args.request.now) (map string_bytes c.deref.result.now)
-    c.in-Err-Unknown.field-0 c.in-Err-Unknown.place answer.status answer.text.items
+    c.in-Err-Unknown.field-0 c.in-Err-Unknown.place (finding_of answer)
     (map string_bytes c.deref-in-Err-Unknown.result.now)
     (ap (map string_bytes) c.deref.ensures.value)
     (ap (map string_bytes) c.deref-in-Err-Unknown.ensures.value) c.in-Err-Unknown.field-0-is

@@ -2,7 +2,7 @@ use Rattle.std.proofs.Common.{inl, inr, refl}
 use Rattle.std.proofs.lemmas.Result.{IfOk-weaker, IfErr-weaker}
 use Rattle.rc_args.specs.NamedAsked.{named_ask_of}
 use Rattle.rc_args.specs.SessionAsked.{session_ask_of}
-use Rattle.rc_cli.specs.Checking.{AnswersCheck, IsUnmet}
+use Rattle.rc_cli.specs.Checking.{AnswersCheck, IsUnmet, finding_of}
 use Rattle.rc_cli.specs.Filing.{file_named}
 use Rattle.rc_cli.proofs.CheckingLemmas.{on_file}
 use Rattle.rc_cli.proofs.UpdateLemmas.{begun_closed}
@@ -33,8 +33,8 @@ returns-clause-answer c =
     (λ answer answers. (
       c.in-Ok.db,
       (spelled.0, spelled.1, spelled.2, refl),
-      on_file (λ d here. AnswersCheck d here (named_ask_of c.args.request.now) answer.status
-          answer.text.items) c.in-Ok.db c.args.request.now.session.bound
+      on_file (λ d here. AnswersCheck d here (named_ask_of c.args.request.now)
+          (finding_of answer)) c.in-Ok.db c.args.request.now.session.bound
           (file_named (session_ask_of c.args.request.now.session).live c.args.live)
           c.in-Ok-begin.session c.in-Ok-begin.ensures.begun answers,
     )) c.session_answer-answer.ensures.answer

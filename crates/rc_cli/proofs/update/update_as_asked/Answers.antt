@@ -1,4 +1,5 @@
 use Rattle.std.proofs.Common.{Err, inl, inr, refl}
+use Rattle.rc_cli.proofs.PuttingLemmas.{told_done, told_failed}
 use Rattle.rc_cli.proofs.update.update_as_asked.Goals as goal
 
 pub returns-in-Err-clause-ended : goal.returns-in-Err-clause-ended
@@ -7,6 +8,10 @@ returns-in-Err-clause-ended g c = (
   inl (c.in-Err.fault, refl, inl c.in-Err.ensures.fault, refl, refl),
   c.tell_ended.ensures,
 )
+
+pub returns-in-Err-clause-led : goal.returns-in-Err-clause-led
+returns-in-Err-clause-led g c zero =
+    absurd (told_failed c.in-Err.fault _ _ _ c.tell_ended.ensures zero)
 
 pub returns-in-Err-spelled-clause-ended : goal.returns-in-Err-spelled-clause-ended
 returns-in-Err-spelled-clause-ended g c =
@@ -22,6 +27,10 @@ returns-in-Err-spelled-clause-ended g c =
       c.tell_ended-in-Err-spelled.ensures,
     )
 
+pub returns-in-Err-spelled-clause-led : goal.returns-in-Err-spelled-clause-led
+returns-in-Err-spelled-clause-led g c zero =
+    absurd (told_failed c.in-Err-spelled.fault _ _ _ c.tell_ended-in-Err-spelled.ensures zero)
+
 pub returns-clause-ended : goal.returns-clause-ended
 returns-clause-ended g c =
     let old = c.in-Ok.ensures.spelled in
@@ -35,4 +44,16 @@ returns-clause-ended g c =
         c.update_on-ended.ensures.ended,
       ),
       c.tell_ended-2.ensures,
+    )
+
+pub returns-clause-led : goal.returns-clause-led
+returns-clause-led g c zero =
+    let old = c.in-Ok.ensures.spelled in
+    let new = c.in-Ok-spelled.ensures.spelled in (
+      c.in-Ok.from,
+      c.in-Ok-spelled.to,
+      (old.0, old.1, old.2, refl),
+      (new.0, new.1, new.2, refl),
+      c.update_on-ended.ensures.led
+          (told_done c.update_on-ended.result _ _ _ c.tell_ended-2.ensures zero),
     )

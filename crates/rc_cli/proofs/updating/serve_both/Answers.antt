@@ -7,6 +7,7 @@ use Rattle.rc_args.specs.OnceAsked.{Said}
 use Rattle.rc_args.specs.SessionAsked.{session_ask_of}
 use Rattle.rc_cli.specs.Once.{ServedOnce}
 use Rattle.rc_cli.specs.Storing.{store_of}
+use Rattle.rc_cli.proofs.PuttingLemmas.{both_lead, line_done}
 use Rattle.rc_cli.proofs.UpdateLemmas.{both_served, fault_behind, first_alone}
 use Rattle.rc_cli.proofs.updating.serve_both.Goals as goal
 
@@ -54,6 +55,26 @@ returns-in-Ok-Done-clause-served g c =
     (g.W.Write.contents (inner_of c.line_once-in-Ok-Done.new.outputs.writer))
     c.args.ahead.now.to c.line_once-in-Ok-Done.new.session)
     c.enter.ensures.same c.line_once-in-Ok-Done.ensures.served)
+
+pub returns-in-Ok-Done-clause-led : goal.returns-in-Ok-Done-clause-led
+returns-in-Ok-Done-clause-led g c =
+    let path = (session_ask_of c.args.request.now).live in
+    let workers = c.args.request.now.workers in
+    let lowering = saying_of c.args.ahead.now.lowering in
+    both_lead g.S.Store.put g.S.Store.entered path lowering (saying_of c.args.ahead.now.raising)
+    c.args.from.now c.line_once.new.session c.args.ahead.now.to
+    c.line_once-in-Ok-Done.new.session (store_of c.args.outputs.now.keeper)
+    (store_of c.line_once.new.outputs.keeper) (store_of c.enter.new.self)
+    (store_of c.line_once-in-Ok-Done.new.outputs.keeper) (
+      line_done workers (g.G.Gate.answers c.args.gates.now.lowers)
+          (g.G.Gate.gives c.args.gates.now.lowers) path _ _ (Said lowering) _ _ c.args.from.now
+          c.line_once.new.session c.in-Ok-Done.field-0 c.in-Ok-Done.field-0-is
+          c.in-Ok-Done.ensures.served,
+      c.in-Ok-Done.ensures.led,
+    ) c.enter.ensures.led workers
+    (g.G.Gate.answers c.args.gates.now.raises) (g.G.Gate.gives c.args.gates.now.raises) _ _ _ _
+    c.behind.result c.line_once-in-Ok-Done.result c.behind.ensures
+    c.line_once-in-Ok-Done.ensures.served c.line_once-in-Ok-Done.ensures.led
 
 pub returns-in-Ok-Done-clause-fault : goal.returns-in-Ok-Done-clause-fault
 returns-in-Ok-Done-clause-fault g c =

@@ -8,7 +8,7 @@ use Rattle.rc_serve.specs.Faults.{IsOfAnswer, IsServeFault, Spoils, of_failure}
 use Rattle.rc_serve.specs.Meeting.{IsDoneBy, WantsWork}
 use Rattle.rc_serve.specs.Ending.{ArrivesSaying, Ends, IsDoneAs, StopsOnce}
 use Rattle.rc_serve.proofs.Arriving.{saying_arrives}
-use Rattle.rc_serve.proofs.Keeping.{handed_on, kept_none, line_still, same_size}
+use Rattle.rc_serve.proofs.Keeping.{handed_on, kept_none, kept_once, line_still, same_size}
 use Rattle.rc_serve.proofs.Lines.{fails_writing, inner_fault, spoils_failure, spoils_on}
 use Rattle.rc_serve.proofs.Lines.{write_fault}
 use Rattle.rc_serve.proofs.Steps.{ends_by}
@@ -28,6 +28,7 @@ returns-in_default g c = record {
   arrives = λ is. absurd (never_ended Done Memory is);
   kept = tt;
   unaltered = λ same. refl;
+  led = tt;
   stopped = inl (
     refl,
     refl,
@@ -71,6 +72,7 @@ returns g c =
           (never_ended Done c.in-Err.fault is);
       kept = tt;
       unaltered = so.unaltered;
+      led = tt;
       stopped =
           once_short (IsDoneBy c.args.executor.now.workers
           (g.G.Gate.answers c.args.executor.now.gate.now)
@@ -122,6 +124,7 @@ returns-in-Ok-answer g c =
           (never_ended Done c.from.result is);
       kept = tt;
       unaltered = so.unaltered;
+      led = tt;
       stopped =
           subst (λ (f : ServeFault). StopsOnce
           (IsDoneBy c.args.executor.now.workers (g.G.Gate.answers c.args.executor.now.gate.now)
@@ -205,6 +208,19 @@ returns-in-Ok-write_answer g c =
           c.db.ensures.database c.journal.ensures.states so.good cc;
       kept = so.kept;
       unaltered = so.unaltered;
+      led =
+          kept_once g.K.Keeper.went c.in-Ok.before (saying_of c.args.said.now)
+          c.args.session.now.database c.step_answer-answer.new.session.database
+          c.args.session.now.line c.step_answer-answer.new.session.line c.args.keeper.now
+          c.keep_altered-answer.new.keeper c.in-Ok.ensures.before
+          c.step_answer-answer.ensures.stays.0
+          (line_still c.args.executor.now.workers (g.G.Gate.answers c.args.executor.now.gate.now)
+          (g.G.Gate.gives c.args.executor.now.gate.now) c.args.session.now.database
+          c.args.session.now.line
+          c.journal.ensures.states c.in-Ok.before (saying_of c.args.said.now)
+          c.step_answer-answer.new.session.line
+          c.in-Ok.ensures.before c.step_answer-answer.ensures.may)
+          c.in-Ok-answer.ensures.led;
       stopped = tt;
       fault = tt;
       sound = λ failed. c.requires.writer (c.in-Ok-write_answer.ensures.sound failed);

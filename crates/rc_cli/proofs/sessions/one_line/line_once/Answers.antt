@@ -4,6 +4,7 @@ use Rattle.rc_script.specs.Says.{saying_of}
 use Rattle.rc_args.specs.SessionAsked.{session_ask_of}
 use Rattle.rc_cli.specs.Storing.{HoldsText, store_of}
 use Rattle.rc_cli.proofs.OnceLemmas.{fault_with, holds_alone, holds_text, served_line}
+use Rattle.rc_cli.proofs.PuttingLemmas.{puts_alone, puts_command}
 use Rattle.rc_cli.proofs.ServingLemmas.{keep_of_file}
 use Rattle.rc_cli.proofs.sessions.one_line.line_once.Goals as goal
 
@@ -30,6 +31,14 @@ returns-in-Ok-clause-fault g c =
     let kept = c.is_kept.ensures.kept c.if-is_kept.true in
     fault_with c.answer_once.result ⊥ _ _ ⊥ _ (λ x. x) (λ failed. (kept.0, failed))
     c.answer_once.ensures.fault
+
+pub returns-in-Ok-clause-led : goal.returns-in-Ok-clause-led
+returns-in-Ok-clause-led g c =
+    let kept = c.is_kept.ensures.kept c.if-is_kept.true in
+    puts_command g.S.Store.put c.args.session.now.database c.args.session.now.line
+    c.answer_once.new.session.line c.args.outputs.now.keeper c.keep.new.self
+    c.answer_once.new.keeper (session_ask_of c.args.request.now).live (saying_of c.args.said.now)
+    c.answer_once.result kept.0 kept.1 c.in-Ok.ensures.led c.answer_once.ensures.led
 
 pub returns-in-Err-clause-served : goal.returns-in-Err-clause-served
 returns-in-Err-clause-served g c =
@@ -68,3 +77,11 @@ pub returns-clause-fault : goal.returns-clause-fault
 returns-clause-fault g c =
     fault_with c.answer_once-2.result ⊥ _ ⊥ ⊥ _ (λ x. x) (λ none. absurd none)
     c.answer_once-2.ensures.fault
+
+pub returns-clause-led : goal.returns-clause-led
+returns-clause-led g c =
+    puts_alone g.S.Store.put (session_ask_of c.args.request.now).live c.args.session.now.database
+    (saying_of c.args.said.now) c.args.session.now.line c.answer_once-2.new.session.line
+    (store_of c.args.outputs.now.keeper) c.answer_once-2.result
+    (c.is_kept.ensures.alone
+    (λ kept. let bad : false ≡ true = sym c.if-is_kept.false ∙ kept in cc))

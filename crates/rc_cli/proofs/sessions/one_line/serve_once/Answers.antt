@@ -6,6 +6,7 @@ use Rattle.rc_args.specs.SessionAsked.{session_ask_of}
 use Rattle.rc_serve.specs.Ending.{EndsWay, IsDoneAs}
 use Rattle.rc_cli.specs.Showing.{EndsDown, EndsDryRestart}
 use Rattle.rc_cli.specs.Storing.{store_of}
+use Rattle.rc_cli.proofs.LeadingLemmas.{left_alone}
 use Rattle.rc_cli.proofs.OnceLemmas.{fault_with, shown_so}
 use Rattle.rc_cli.proofs.sessions.one_line.serve_once.Goals as goal
 
@@ -21,6 +22,10 @@ returns-in-DryUndo-clause-served g c =
     (g.W.Write.contents (inner_of c.show_undo.new.writer)) c.args.session.now
     (λ ending text way. (way, refl)) tt refl c.show_undo.result c.show_undo.ensures.shown
     c.show_undo.ensures.failed)
+
+pub returns-in-DryUndo-clause-led : goal.returns-in-DryUndo-clause-led
+returns-in-DryUndo-clause-led g c =
+    rw c.in-DryUndo.is (left_alone (store_of c.args.outputs.now.keeper) c.show_undo.result)
 
 pub returns-in-DryUndo-clause-fault : goal.returns-in-DryUndo-clause-fault
 returns-in-DryUndo-clause-fault g c =
@@ -38,6 +43,10 @@ returns-in-DryRedo-clause-served g c =
     (g.W.Write.contents (inner_of c.show_redo.new.writer)) c.args.session.now
     (λ ending text way. (way, refl)) tt refl c.show_redo.result c.show_redo.ensures.shown
     c.show_redo.ensures.failed)
+
+pub returns-in-DryRedo-clause-led : goal.returns-in-DryRedo-clause-led
+returns-in-DryRedo-clause-led g c =
+    rw c.in-DryRedo.is (left_alone (store_of c.args.outputs.now.keeper) c.show_redo.result)
 
 pub returns-in-DryRedo-clause-fault : goal.returns-in-DryRedo-clause-fault
 returns-in-DryRedo-clause-fault g c =
@@ -63,6 +72,10 @@ returns-in-DryRestart-clause-served g c =
     ))
     tt refl c.show_restart.result c.show_restart.ensures.shown c.show_restart.ensures.failed)
 
+pub returns-in-DryRestart-clause-led : goal.returns-in-DryRestart-clause-led
+returns-in-DryRestart-clause-led g c =
+    rw c.in-DryRestart.is (left_alone (store_of c.args.outputs.now.keeper) c.show_restart.result)
+
 pub returns-in-DryRestart-clause-fault : goal.returns-in-DryRestart-clause-fault
 returns-in-DryRestart-clause-fault g c =
     fault_with c.show_restart.result ⊥ _ ⊥ ⊥ _ (λ x. x) (λ none. absurd none)
@@ -81,6 +94,10 @@ returns-in-Down-clause-served g c =
     (λ ending text way. (way, refl)) tt refl c.show_down.result c.show_down.ensures.shown
     c.show_down.ensures.failed)
 
+pub returns-in-Down-clause-led : goal.returns-in-Down-clause-led
+returns-in-Down-clause-led g c =
+    rw c.in-Down.is (left_alone (store_of c.args.outputs.now.keeper) c.show_down.result)
+
 pub returns-in-Down-clause-fault : goal.returns-in-Down-clause-fault
 returns-in-Down-clause-fault g c =
     fault_with c.show_down.result ⊥ _ ⊥ ⊥ _ (λ x. x) (λ none. absurd none)
@@ -88,3 +105,6 @@ returns-in-Down-clause-fault g c =
 
 pub returns-in-Line-clause-served : goal.returns-in-Line-clause-served
 returns-in-Line-clause-served g c = rw c.in-Line.is c.line_once.ensures.served
+
+pub returns-in-Line-clause-led : goal.returns-in-Line-clause-led
+returns-in-Line-clause-led g c = rw c.in-Line.is c.line_once.ensures.led

@@ -3,7 +3,7 @@ use Rattle.rc_serve.specs.Ending.{IsDoneAs}
 use Rattle.rc_streams.specs.Noting.{inner_of}
 use Rattle.rc_args.specs.OnceAsked.{OnceSaying, Said}
 use Rattle.rc_args.specs.SessionAsked.{session_ask_of}
-use Rattle.rc_cli.specs.Restarting.{Restarted}
+use Rattle.rc_cli.specs.Restarting.{LeadsBack, Restarted}
 use Rattle.rc_cli.specs.Steps.{lowering}
 use Rattle.rc_cli.specs.Storing.{store_of}
 use Rattle.rc_cli.proofs.sessions.restarting.restart_in.Goals as goal
@@ -21,3 +21,12 @@ returns-clause-served g c =
     (ap Said c.step_line-line.ensures.says
     ∙ ap (λ (ns : List (List ℕ)). lowering false ns) c.in-Ok-copied.ensures)
     c.serve_steps-ended.ensures.served
+
+pub returns-clause-led : goal.returns-clause-led
+returns-clause-led g c done =
+    subst (λ (what : OnceSaying). LeadsBack g.S.Store.put (session_ask_of c.args.request.now).live
+    what c.args.session.now.database c.args.session.now.line (store_of c.args.outputs.now.keeper)
+    (store_of c.serve_steps-ended.new.outputs.keeper))
+    (ap Said c.step_line-line.ensures.says
+    ∙ ap (λ (ns : List (List ℕ)). lowering false ns) c.in-Ok-copied.ensures)
+    (c.serve_steps-ended.ensures.led done)

@@ -1,6 +1,39 @@
-use Rattle.std.proofs.Common.{inl, inr}
+use Rattle.std.proofs.Common.{◌≡◌, ◌∙◌, Ok, ap, false, inl, inr, sym, true}
+use Rattle.rc_script.specs.Says.{saying_of}
+use Rattle.rc_args.specs.OnceAsked.{Said}
+use Rattle.rc_args.specs.SessionAsked.{session_ask_of}
+use Rattle.rc_cli.specs.Restarting.{coming_back}
+use Rattle.rc_cli.specs.Storing.{store_of}
+use Rattle.rc_cli.proofs.LeadingLemmas.{both_done, is_done, leads_back}
+use Rattle.rc_cli.proofs.PuttingLemmas.{line_done}
 use Rattle.rc_cli.proofs.sessions.restarting.serve_steps.Goals as goal
 
 pub returns-in-Err-clause-served : goal.returns-in-Err-clause-served
 returns-in-Err-clause-served g c =
     inr (inl (c.line_once.new.session, inl tt, c.in-Err.ensures.served))
+
+pub returns-in-Ok-come_back-clause-led : goal.returns-in-Ok-come_back-clause-led
+returns-in-Ok-come_back-clause-led g c done =
+    let path = (session_ask_of c.args.request.now).live in
+    let workers = c.args.request.now.workers in
+    let answers = g.G.Gate.answers c.args.gate.now in
+    let gives = g.G.Gate.gives c.args.gate.now in
+    let what = Said (saying_of c.args.first.now.line) in
+    let middle = c.line_once.new.session in
+    let new = c.come_back.new.session in
+    let both = both_done c.in-Ok.lowered (Ok c.in-Ok-come_back.raised)
+    (ap Ok (sym c.ending_with.ensures) ∙ done) in
+    leads_back g.S.Store.put path what c.args.session.now.database c.args.session.now.line
+    middle.line (store_of c.args.outputs.now.keeper) (store_of c.line_once.new.outputs.keeper)
+    (store_of c.come_back.new.outputs.keeper) (
+      line_done workers answers gives path _ _ what _ _ c.args.session.now middle c.in-Ok.lowered
+          both.0 c.in-Ok.ensures.served,
+      c.in-Ok.ensures.led,
+    )
+    middle.database new.line c.line_once.ensures.stays.0
+    (λ same. let bad : false ≡ true =
+    sym c.if-is_live.false ∙ c.is_live.ensures.1 (same ∙ sym c.requires.before) in cc) (
+      line_done workers answers gives path _ _ coming_back _ _ middle new c.in-Ok-come_back.raised
+          (is_done c.in-Ok-come_back.raised both.1) c.in-Ok-come_back.ensures.served,
+      c.in-Ok-come_back.ensures.led,
+    )

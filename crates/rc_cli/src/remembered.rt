@@ -1,29 +1,13 @@
-//! The file of the failures of a session: `FILE.failed` beside `FILE`. The program that has the
-//! lock of `FILE` replaces it whole.
+//! What is remembered of failed transitions in `FILE.failed`, and what is shown of it.
 
 use crate::failures::{Stamp, entered, failures_in, is, lines_of};
 use jiff::Timestamp;
 use log::warn;
 use rc_script::words_of;
 use rc_streams::messages::{MESSAGE, Messages};
-use rc_streams::{replaced_file, run_file, whole_file};
+use rc_streams::{failed_file, run_file};
 use std::alloc::{AllocError, Global};
-use std::fs::{self, File};
 use std::io::{self, ErrorKind};
-use std::os::unix::fs::{MetadataExt, OpenOptionsExt};
-
-/// The rights of the file: its owner's alone.
-const RIGHTS: u32 = 0o600;
-
-/// Returns true if something stands where the failures of a session are remembered.
-pub(crate) fn is_there(rt: &HostRuntime, path: &str) -> bool {
-    let Ok(place) = place_of(rt, path) else {
-        return false;
-    };
-    let is_there = fs::symlink_metadata(rt, place.as_str()).is_ok();
-    drop(place);
-    is_there
-}
 
 /// Enters the ends that the run log of a session states into its failures.
 pub(crate) fn remember_run(rt: &HostRuntime, path: &str) {
@@ -59,14 +43,7 @@ pub(crate) fn failed_text(rt: &HostRuntime, path: Option<&str>) -> Vec<u8> {
 
 // Returns the text of the failures of a session. Fails if what stands there is no such text.
 fn checked_text(rt: &HostRuntime, path: &str) -> io::Result<Vec<u8>> {
-    let place = match place_of(rt, path) {
-        Ok(place) => place,
-        Err(error) if error.kind() == ErrorKind::NotFound => return Ok(Vec::new(rt.alloc())),
-        Err(error) => return Err(error),
-    };
-    let text = read(rt, place.as_str());
-    drop(place);
-    let text = text?;
+    let text = failed_file::read(rt, path)?;
     if text.is_empty() || is_text(rt.alloc(), &text)? {
         Ok(text)
     } else {
@@ -85,25 +62,21 @@ fn is_text(alloc: Global, text: &[u8]) -> Result<bool, AllocError> {
 
 // Enters the ends that a run log states into the failures of the session at a path.
 fn enter(rt: &HostRuntime, path: &str, log: &[u8]) -> io::Result<()> {
-    let place = place_of(rt, path)?;
-    let entered = enter_at(rt, place.as_str(), log);
-    drop(place);
-    entered
-}
-
-// Enters the ends that a run log states into the failures at a place.
-fn enter_at(rt: &HostRuntime, place: &str, log: &[u8]) -> io::Result<()> {
-    let before = read(rt, place)?;
-    let put = match text_behind(rt, &before, log) {
+    let before = failed_file::read(rt, path)?;
+    let entered = match text_behind(rt, &before, log) {
         Ok(text) => {
-            let put = put(rt, place, &before, &text);
+            let entered = if before == text {
+                Ok(())
+            } else {
+                failed_file::replace(rt, path, &text)
+            };
             drop(text);
-            put
+            entered
         }
         Err(error) => Err(error),
     };
     drop(before);
-    put
+    entered
 }
 
 // Returns the text of failures after the ends that a run log states.
@@ -191,51 +164,7 @@ fn now_of(rt: &HostRuntime) -> Timestamp {
     }
 }
 
-// Returns the path of the file beside that of a session, to which links are followed.
-fn place_of(rt: &HostRuntime, path: &str) -> io::Result<String> {
-    let place = fs::canonicalize(rt, path)?;
-    let front = place.as_str();
-    let beside = format!(in rt.alloc(); "{front}.failed");
-    drop(place);
-    Ok(beside?)
-}
-
-// Reads what was remembered at a place, and no bytes if nothing is there. Fails for what is no
-// plain file of one name.
-fn read(rt: &HostRuntime, place: &str) -> io::Result<Vec<u8>> {
-    match fs::symlink_metadata(rt, place) {
-        Ok(found) if !found.is_file() => Err(refused("is no plain file")),
-        Ok(found) if found.nlink() > 1 => Err(refused("has another name")),
-        Ok(_) => whole_file::read(rt, place),
-        Err(error) if error.kind() == ErrorKind::NotFound => Ok(Vec::new(rt.alloc())),
-        Err(error) => Err(error),
-    }
-}
-
-// Puts a text at a place in which this one was found. Removes the file if there is nothing to say.
-fn put(rt: &HostRuntime, place: &str, before: &[u8], text: &[u8]) -> io::Result<()> {
-    if before == text {
-        return Ok(());
-    }
-    if text.is_empty() {
-        return fs::remove_file(rt, place);
-    }
-    let mut options = File::options();
-    options.write(true).create_new(true).mode(RIGHTS);
-    match options.open(rt, place) {
-        Ok(file) => drop(file),
-        Err(error) if error.kind() == ErrorKind::AlreadyExists => {}
-        Err(error) => return Err(error),
-    }
-    replaced_file::replace(rt, place, text)
-}
-
 // Creates the error for a text that is none of failures.
 fn no_text() -> io::Error {
-    refused("it is no list of failures")
-}
-
-// Creates the error for a file that is refused.
-fn refused(why: &str) -> io::Error {
-    io::Error::new(ErrorKind::InvalidInput, why)
+    io::Error::new(ErrorKind::InvalidInput, "it is no list of failures")
 }
