@@ -13,3 +13,7 @@ mod HaltLemmas
 -- What is launched as an undo or a redo of one line is a run inside the present generation of a
 -- history, or is refused.
 mod TravelLemmas
+-- An undo that goes back to a state, undo by undo.
+mod BackLemmas
+-- A command is served alone by the history that its store was found to hold.
+mod AloneLemmas

@@ -65,7 +65,3 @@ MeetsBorder on history meets = (at : StandingText) × StandsAt history at
 -- the history that was read from the file of a session, if one stood there
 abbrev pub history_found : LiveText → Option (List ℕ)
 history_found live = option_map (λ history. history.text.items) live.history
-
--- it is the history of a frame
-abbrev pub IsFrameOf : LiveText → Frame → Type 0
-IsFrameOf live frame = history_in frame ≡ history_found live

@@ -2,7 +2,8 @@
 use Rattle.std.specs.Prelude.{◌≡◌, ◌↔◌, ◌==◌, ◌&&◌, ◌||◌, ℕ, Bool, true, false, not, IsTrue, List}
 use Rattle.std.specs.Prelude.{Option, None, Some, if◌then◌else◌}
 use Rattle.rc_args.specs.declared.session_command.SessionCommand.{SessionCommand}
-use Rattle.rc_args.specs.declared.session_command.SessionCommand.TheVariants.{Restart, Update}
+use Rattle.rc_args.specs.declared.session_command.SessionCommand.TheVariants.{Check, Restart}
+use Rattle.rc_args.specs.declared.session_command.SessionCommand.TheVariants.{Update}
 use Rattle.rc_cli.specs.Begun.{LogsWay}
 use Rattle.rc_historytext.specs.Present.{StandingText, StandsAt, passes}
 use Rattle.rc_historytext.specs.declared.keeping.Keeping.{Keeping}
@@ -14,6 +15,7 @@ use Rattle.rc_launch.specs.declared.held_files.Finder.TheVariants.{GivenAgain, O
 abbrev pub takes_back : SessionCommand → Bool
 takes_back (Update request) = true
 takes_back (Restart request) = true
+takes_back (Check request) = request.repairs
 takes_back other = false
 
 -- what the command that finds a log is to that of the log

@@ -21,9 +21,17 @@ pub mod Beside
 pub mod Opening
 -- The history that the store of a session holds.
 pub mod HeldHistory
+-- The history in which a command keeps its session.
+pub mod Frames
 -- What an undo or a redo of a history leaves of its text that ends with status 1 or 2.
 pub mod Halted
+-- An undo that goes back to a state of the journal, by one undo after the other.
+pub mod Back
 -- An undo or a redo is asked for, and led so.
 pub mod Ways
+-- The status of a check that has repaired what it found.
+pub mod Mending
+-- A command is carried out as on a session that is kept alone.
+pub mod Alone
 -- What a command comes to on what was read for it.
 pub mod Serving

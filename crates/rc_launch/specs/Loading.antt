@@ -1,6 +1,6 @@
 -- What is read for a command on the file of a session.
-use Rattle.std.specs.Prelude.{◌≡◌, ◌≢◌, ℕ, List, [], Option, None, Some, false, option_map}
-use Rattle.std.specs.Prelude.{unwrap_or}
+use Rattle.std.specs.Prelude.{◌≡◌, ◌≢◌, ℕ, List, [], Option, None, Some, false, true}
+use Rattle.std.specs.Prelude.{option_map, unwrap_or}
 use Rattle.std.specs.Borrow.{Bor}
 use Rattle.rc_args.specs.Invocation.{command_session}
 use Rattle.rc_args.specs.OnceAsked.{once_saying_of}
@@ -23,7 +23,7 @@ MovesBy (command.Update request) = request.dry ≡ false
 MovesBy (command.Restart request) = Unit {0}
 MovesBy (command.Seal request) = Unit {0}
 MovesBy (command.Status request) = ⊥
-MovesBy (command.Check request) = ⊥
+MovesBy (command.Check request) = request.repairs ≡ true
 
 -- what is asked of the session
 abbrev pub session_in : Loaded → SessionRequest

@@ -1,5 +1,5 @@
 -- An undo or a redo is asked for, and led so.
-use Rattle.std.specs.Prelude.{◌≡◌, ℕ, Bool, []}
+use Rattle.std.specs.Prelude.{◌≡◌, ℕ, Bool, false, [], None, Some}
 use Rattle.rc_args.specs.OnceAsked.{Said, once_saying_of}
 use Rattle.rc_args.specs.declared.once_words.Once.{Once}
 use Rattle.rc_args.specs.declared.session_command.SessionCommand.{SessionCommand}
@@ -7,18 +7,34 @@ use Rattle.rc_args.specs.declared.session_command.SessionCommand.TheVariants.{Li
 use Rattle.rc_script.specs.Says.{SaysStep}
 use Rattle.rc_historytext.specs.Travelling.{way_command}
 use Rattle.rc_launch.specs.declared.carrying_out.Led.{Led}
-use Rattle.rc_launch.specs.declared.carrying_out.Led.TheVariants.{Way}
+use Rattle.rc_launch.specs.declared.carrying_out.Led.TheVariants.{Alone, Back, Way}
 
 -- a line is an undo (not `on`) or a redo (`on`), with this limit
 abbrev pub IsWayLine : Once → (on : Bool) → (limit : ℕ) → Type 0
 IsWayLine once on limit = once_saying_of once ≡ Said (SaysStep (way_command on limit []))
 
--- a command is such a line
+-- a command is such a line, and names no state to go back to
 abbrev pub AsksWay : SessionCommand → (on : Bool) → (limit : ℕ) → Type 0
-AsksWay (Line request) on limit = IsWayLine request.once on limit
+AsksWay (Line request) on limit = IsWayLine request.once on limit × (request.to ≡ None)
 AsksWay other on limit = ⊥
+
+-- a command is an undo that goes back to this state, with this limit of each of its runs
+abbrev pub AsksBack : SessionCommand → (state : ℕ) → (limit : ℕ) → Type 0
+AsksBack (Line request) state limit =
+    IsWayLine request.once false limit × (request.to ≡ Some state)
+AsksBack other state limit = ⊥
 
 -- it is led as an undo (not `on`) or a redo (`on`)
 abbrev pub IsLedOn : (on : Bool) → Led → Type 0
 IsLedOn on (Way way) = way.is_on ≡ on
 IsLedOn on other = ⊥
+
+-- it is led back to this state
+abbrev pub IsLedBack : (state : ℕ) → Led → Type 0
+IsLedBack state (Back aim) = aim.state ≡ state
+IsLedBack state other = ⊥
+
+-- it is led as on a session that is kept alone
+abbrev pub IsLedAlone : Led → Type 0
+IsLedAlone Alone = Unit {0}
+IsLedAlone other = ⊥

@@ -12,12 +12,12 @@ use rc_cli::controller_of;
 use rc_db::Db;
 use rc_dbtext::{TextFault, database_of};
 use rc_historytext::HistoryFault;
-use rc_names::{Kind, Names, NoMem};
+use rc_names::{Names, NoMem};
 use rc_recovery::{FileFault, UnderWay, log_end, under_way};
-use rc_runner::{Found, ask_state};
+use rc_runner::{Found, ask, question_for};
 use std::alloc::AllocError;
 
-/// Waits until no program of a command that was cut short runs. Then logs the end of each longrun's
+/// Waits until no program of a command that was cut short runs. Then logs the end of each
 /// transition that was under way and that has come to its end, by what the controller of a command
 /// says. Returns what the two files hold after that. A command without a controller asks nothing.
 ///
@@ -132,13 +132,17 @@ fn has_ended(way: &UnderWay, found: Found) -> bool
     }
 }
 
-// Asks the controller where a service stands. It knows of longruns alone.
+// Asks the controller where a service stands.
 fn found_of(rt: &HostRuntime, db: &Db, controller: &[String], service: u16) -> Found {
     let names = db.names();
-    if service >= names.len() || db.service(service).kind != Kind::Longrun {
+    if service >= names.len() {
         return Found::Unknown;
     }
-    ask_state(rt, rt.alloc(), controller, names.name_of(service).text())
+    let name = names.name_of(service).text();
+    match question_for(db.service(service).kind) {
+        Some(question) => ask(rt, rt.alloc(), controller, question, name),
+        None => Found::Unknown,
+    }
 }
 
 // Logs that these transitions have come to their end. Returns true if anything was written.

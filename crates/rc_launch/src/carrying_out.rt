@@ -1,16 +1,26 @@
 //! A command is carried out on the files that were opened for it.
-ghost use Rattle.std.specs.Prelude.{◌≡◌, ℕ, Bool, IsTrue};
+ghost use Rattle.std.specs.Prelude.{◌≡◌, ◌⊎◌, ℕ, Bool, false, IsSome, IsTrue, None, Some};
+ghost use Rattle.std.specs.Prelude.{is_some};
 ghost use Rattle.rc_streams.specs.Noting.{HasFailed};
+ghost use Rattle.rc_args.specs.OnceAsked.{once_saying_of};
+ghost use Rattle.rc_cli.specs.Session.{dealt};
 ghost use Rattle.rc_cli.specs.Storing.{store_of};
+ghost use Rattle.rc_cli.specs.declared.sessions.keeping.LiveFile.{LiveFile};
 ghost use Rattle.rc_historytext.specs.Halting.{Halts};
 ghost use Rattle.rc_historytext.specs.Travelling.{Travels};
+ghost use Rattle.rc_launch.specs.Alone.{IsServed, StaysInside};
 ghost use Rattle.rc_launch.specs.Halted.{HasHalted, IsRefusedOn};
-ghost use Rattle.rc_launch.specs.HeldHistory.{Leads};
+ghost use Rattle.rc_launch.specs.HeldHistory.{Leads, history_held, session_kept};
 ghost use Rattle.rc_launch.specs.Loading.{NamesFile};
-ghost use Rattle.rc_launch.specs.Ways.{AsksWay, IsLedOn, IsWayLine};
+ghost use Rattle.rc_launch.specs.Back.{ComesBackTo, StopsBack};
+ghost use Rattle.rc_launch.specs.Serving.{Carries, IsReadAs, logged_of};
+ghost use Rattle.rc_launch.specs.Ways.{AsksBack, AsksWay, IsLedAlone, IsLedBack, IsLedOn};
+ghost use Rattle.rc_launch.specs.Ways.{IsWayLine};
 
 use crate::execution::Execution;
+use crate::going_back::{Aim, go_back};
 use crate::live_store::LiveStore;
+use crate::mending::mend;
 use crate::opened::Opened;
 use crate::serving::{Status, serve, status_of};
 use crate::showing::{Shown, show};
@@ -29,10 +39,14 @@ use std::thread::Threads;
 enum Led<'a> {
     /// As an undo or a redo of a history.
     Way(Way),
+    /// As an undo that goes back to a state.
+    Back(Aim),
     /// As one that is shown.
     Shown(Shown<'a>),
     Update(&'a UpdateRequest<'a>),
     Restart(&'a NamedRequest<'a>),
+    /// As a check that repairs what it finds.
+    Mend(&'a NamedRequest<'a>),
     /// As on a session that is kept alone.
     Alone,
 }
@@ -66,6 +80,35 @@ pub fn carry_out<'x, T: Threads + Wait + Sync, R: Read, W: Write, F: Write>(
         NamesFile opened.now.loaded → result.code ≡ 1 →
         Leads (store_of devices.old.outputs.keeper) (store_of devices.new.outputs.keeper)
         (IsRefusedOn on) }
+
+    // An undo that goes back to a state has come there with status 0.
+    ensures back { (state limit : ℕ) → AsksBack opened.now.loaded.command state limit →
+        NamesFile opened.now.loaded → result.code ≡ 0 →
+        Leads (store_of devices.old.outputs.keeper) (store_of devices.new.outputs.keeper)
+        (ComesBackTo state) }
+
+    // With status 2 it has stopped before, at an undo that is not done.
+    ensures stopped { (state limit : ℕ) → AsksBack opened.now.loaded.command state limit →
+        NamesFile opened.now.loaded → result.code ≡ 2 →
+        Leads (store_of devices.old.outputs.keeper) (store_of devices.new.outputs.keeper)
+        (StopsBack state) }
+
+    // With status 1 it is refused, as an undo is.
+    ensures unmoved { (state limit : ℕ) → AsksBack opened.now.loaded.command state limit →
+        NamesFile opened.now.loaded → result.code ≡ 1 →
+        Leads (store_of devices.old.outputs.keeper) (store_of devices.new.outputs.keeper)
+        (IsRefusedOn false) }
+
+    // What leads no further than one session is carried out as `serve` does it.
+    ensures served { IsServed opened.now.loaded.command
+        (is_some (history_held (store_of devices.old.outputs.keeper))) →
+        (file : LiveFile) × IsReadAs (λ bytes. bytes.items) opened.now.live.found file
+        × Carries opened.now.loaded (logged_of opened.now.note) file result.code
+        (dealt R.remaining W.contents session_kept devices.old.reader devices.new.reader
+        devices.old.outputs devices.new.outputs)
+        (HasFailed devices.new.reader) (HasFailed devices.new.outputs.writer)
+        (IsSome (store_of devices.new.outputs.keeper).error)
+        (F.contents devices.old.faults) (F.contents devices.new.faults) }
 {
     let execution = Execution {
         rt,
@@ -75,29 +118,65 @@ pub fn carry_out<'x, T: Threads + Wait + Sync, R: Read, W: Write, F: Write>(
     let is_history = devices.outputs.keeper.store.history().is_some();
     match led_by(opened.command(), is_history) {
         Led::Way(way) => status_of(travel(&execution, way, devices)),
+        Led::Back(aim) => status_of(go_back(&execution, aim, devices)),
         Led::Shown(shown) => status_of(show(&execution, shown, devices)),
         Led::Update(request) => status_of(update(&execution, request, devices)),
         Led::Restart(request) => status_of(restart(&execution, request, devices)),
+        Led::Mend(request) => status_of(mend(&execution, request, devices)),
         Led::Alone => serve(rt, threads, opened, devices),
     }
 }
 
 // Returns how a command is led on a history, or on a session that is kept alone.
 fn led_by<'a>(command: &'a SessionCommand<'_>, is_history: bool) -> Led<'a>
-    ensures { (on : Bool) (limit : ℕ) → AsksWay command.now on limit → IsTrue is_history →
+    ensures way { (on : Bool) (limit : ℕ) → AsksWay command.now on limit → IsTrue is_history →
         IsLedOn on result }
+    ensures back { (state limit : ℕ) → AsksBack command.now state limit →
+        IsLedBack state result }
+    ensures served { IsServed command.now is_history → IsLedAlone result }
 {
     match command {
-        SessionCommand::Line(request) if is_history => led_line(&request.once),
+        SessionCommand::Line(request) => led_to(&request.once, request.to, is_history),
         SessionCommand::Update(request) if !request.dry => Led::Update(request),
         SessionCommand::Restart(request) => Led::Restart(request),
+        SessionCommand::Check(request) if request.repairs => Led::Mend(request),
+        _ => Led::Alone,
+    }
+}
+
+// Returns how a line is led, by the state to which it goes back, if it names one.
+fn led_to(once: &Once, to: Option<u32>, is_history: bool) -> Led<'_>
+    ensures way { (on : Bool) (limit : ℕ) → IsWayLine once.now on limit → to ≡ None →
+        IsTrue is_history → IsLedOn on result }
+    ensures back { (state limit : ℕ) → IsWayLine once.now false limit → to ≡ Some state →
+        IsLedBack state result }
+    ensures served { to ≡ None →
+        (is_history ≡ false) ⊎ StaysInside (once_saying_of once.now) → IsLedAlone result }
+{
+    match to {
+        Some(state) => led_back(once, state),
+        None if is_history => led_line(once),
+        None => Led::Alone,
+    }
+}
+
+// Returns how an undo is led that goes back to a state.
+fn led_back(once: &Once, state: u32) -> Led<'_>
+    ensures { (limit : ℕ) → IsWayLine once.now false limit → IsLedBack state result }
+{
+    match once {
+        Once::Line(SessionLine::Command(Command::Undo(limit))) => Led::Back(Aim {
+            state,
+            limit: *limit,
+        }),
         _ => Led::Alone,
     }
 }
 
 // Returns how a line is led on a history.
 fn led_line(once: &Once) -> Led<'_>
-    ensures { (on : Bool) (limit : ℕ) → IsWayLine once.now on limit → IsLedOn on result }
+    ensures way { (on : Bool) (limit : ℕ) → IsWayLine once.now on limit → IsLedOn on result }
+    ensures served { StaysInside (once_saying_of once.now) → IsLedAlone result }
 {
     match once {
         Once::DryUndo => Led::Shown(Shown { once, is_on: false }),

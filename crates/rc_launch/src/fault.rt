@@ -13,6 +13,9 @@ pub enum OpenFault<'a> {
     /// This file can't be read.
     #[error("a file can't be read")]
     File(&'a str, io::Error),
+    /// This directory can't keep what scripts write.
+    #[error("a directory can't keep what scripts write")]
+    Output(&'a str, io::Error),
     /// The text of this file is to be a history, and is none.
     #[error("a file is no history")]
     History(&'a str, HistoryFault),

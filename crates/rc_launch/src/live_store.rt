@@ -10,8 +10,9 @@ ghost use Rattle.rc_launch.specs.Beside.{AreRunsOf, IsLocked};
 ghost use Rattle.rc_launch.specs.Loading.{session_in};
 ghost use Rattle.rc_launch.specs.Opening.{LocksFor, Replaces};
 ghost use Rattle.rc_historytext.specs.Updating.{IsCrossed, IsSettled};
-ghost use Rattle.rc_launch.specs.HeldHistory.{IsAlone, IsFrameOf, KeepsThere, Leads, WasLedFrom};
-ghost use Rattle.rc_launch.specs.HeldHistory.{history_found, history_held, session_kept};
+ghost use Rattle.rc_launch.specs.HeldHistory.{IsAlone, KeepsThere, Leads, WasLedFrom};
+ghost use Rattle.rc_launch.specs.HeldHistory.{history_held, session_kept};
+ghost use Rattle.rc_launch.specs.Frames.{IsFrameBack, IsFrameOf};
 ghost use Rattle.rc_launch.specs.declared.live_store.Frame.TheVariants as frame;
 
 use crate::loading::Loaded;
@@ -20,7 +21,7 @@ use crate::runs::{Runs, RunsFault};
 use crate::tried_lock::TriedLock;
 use rc_args::{Making, Once, SessionCommand};
 use rc_cli::sessions::{KeptText, Store, keep_fault};
-use rc_historytext::{Framed, HistoryFault, Keeping, cross_border, settle_state};
+use rc_historytext::{Framed, HistoryFault, Keeping, cross_border, present_of, settle_state};
 use rc_script::SessionLine;
 use rc_serve::KeepFault;
 use rc_session::Command;
@@ -66,6 +67,8 @@ pub struct LiveStore<'a> {
     frame: Frame<'a>,
     /// What the command does to the states of the session.
     keeping: Keeping,
+    /// Whether the file has the present session of the history alone.
+    is_bare: bool,
     /// Whether the session of one line is kept, in the history as it was before that line.
     is_of_line: bool,
     /// Where an update leads, and whether it has come there.
@@ -106,6 +109,7 @@ impl<'a> LiveStore<'a> {
             lock,
             frame: Frame::Alone(None),
             keeping: Keeping::Command,
+            is_bare: false,
             is_of_line: false,
             next: None,
             is_entering: false,
@@ -120,8 +124,7 @@ impl<'a> LiveStore<'a> {
         ensures path { IfOk result (λ store. store.path ≡ self.entry.path) }
         ensures lock { IfOk result (λ store. store.lock ≡ self.entry.lock) }
         ensures error { IfOk result (λ store. store.error ≡ self.entry.error) }
-        ensures history { IfOk result (λ store.
-            history_held store ≡ history_found opened.now.live) }
+        ensures history { IfOk result (λ store. IsFrameOf opened.now store.frame) }
     {
         let LiveStore {
             rt,
@@ -129,6 +132,7 @@ impl<'a> LiveStore<'a> {
             lock,
             frame: _,
             keeping: _,
+            is_bare: _,
             is_of_line: _,
             next: _,
             is_entering: _,
@@ -142,6 +146,7 @@ impl<'a> LiveStore<'a> {
                 lock,
                 frame,
                 keeping: keeping_of(opened.command()),
+                is_bare: is_bare(opened),
                 is_of_line: false,
                 next: next_of(opened),
                 is_entering: false,
@@ -293,10 +298,21 @@ impl<'a> LiveStore<'a> {
             return probe(self.rt, self.path);
         }
         let _ = give_room(self.rt, self.path);
+        if self.is_bare {
+            return self.write_present(whole);
+        }
         if let Some(source) = self.source {
             self.narrow(source)?;
         }
         replace(self.rt, self.path, whole)
+    }
+
+    // Writes the present session of a history into the file, alone.
+    fn write_present(&self, whole: &[u8]) -> io::Result<()> {
+        match present_of(self.rt.alloc(), whole) {
+            Ok(present) => replace(self.rt, self.path, present.session),
+            Err(fault) => Err(history_error(fault)),
+        }
     }
 
     // Removes from the file those rights to read that the file of a database does not give, since
@@ -406,6 +422,10 @@ impl Store for LiveStore<'_> {
 
     ghost failed = { λ s. IsSome s.error };
 
+    ghost put = { λ old text new. Unit {0} };
+
+    ghost entered = { λ old new. Unit {0} };
+
     fn replace(&mut self, text: KeptText<'_>) -> Result<(), KeepFault> {
         let put = self.put_session(text.bytes());
         self.noted(put)
@@ -484,9 +504,10 @@ fn history_error(fault: HistoryFault) -> io::Error {
 }
 
 // Returns the frame in which the session of a command is kept: the history of its file, or a new
-// history with the database of the command if an update begins one.
+// history with the database of the command if one of two steps begins one, or if the command goes
+// back to a state. The latter stands nowhere.
 fn frame_of<'a>(alloc: Global, opened: &'a Opened<'_>) -> Result<Frame<'a>, AllocError>
-    ensures { IfOk result (IsFrameOf opened.now.live) }
+    ensures { IfOk result (IsFrameOf opened.now) }
 {
     if let Some(history) = opened.live().history() {
         let whole = Vec::from_slice(alloc, history)?;
@@ -499,7 +520,39 @@ fn frame_of<'a>(alloc: Global, opened: &'a Opened<'_>) -> Result<Frame<'a>, Allo
         (SessionCommand::Update(_) | SessionCommand::Restart(_), Some(base)) => {
             Ok(Frame::Begins(base.bytes()))
         }
+        (SessionCommand::Check(request), Some(base)) if request.repairs => {
+            Ok(Frame::Begins(base.bytes()))
+        }
+        (SessionCommand::Line(request), Some(base)) if request.to.is_some() => {
+            frame_back(alloc, base.bytes(), opened.live().bytes())
+        }
         _ => Ok(Frame::Alone(opened.live().bytes())),
+    }
+}
+
+// Returns the frame of a command that goes back to a state of a session that is kept alone: a
+// history with this database, in which the session stands, if there is one.
+fn frame_back<'a>(
+    alloc: Global,
+    database: &[u8],
+    session: Option<&'a [u8]>,
+) -> Result<Frame<'a>, AllocError>
+    ensures { IfOk result (IsFrameBack database.now (option_map (λ s. s.now) session.entry)) }
+{
+    let Some(session) = session else {
+        return Ok(Frame::Alone(None));
+    };
+    match Framed::begun(alloc, database, session, Keeping::Way) {
+        Ok(begun) => Ok(Frame::History(begun)),
+        Err(_) => Err(AllocError),
+    }
+}
+
+// Returns true if a command goes back to a state of a session that is kept alone.
+fn is_bare(opened: &Opened<'_>) -> bool {
+    match (opened.command(), opened.live().history()) {
+        (SessionCommand::Line(request), None) => request.to.is_some(),
+        _ => false,
     }
 }
 
@@ -507,6 +560,7 @@ fn frame_of<'a>(alloc: Global, opened: &'a Opened<'_>) -> Result<Frame<'a>, Allo
 fn keeping_of(command: &SessionCommand<'_>) -> Keeping {
     match command {
         SessionCommand::Update(_) | SessionCommand::Restart(_) => Keeping::Step,
+        SessionCommand::Check(request) if request.repairs => Keeping::Step,
         SessionCommand::Seal(_) => Keeping::Seal,
         SessionCommand::Line(request) => match &request.once {
             Once::Line(SessionLine::Command(Command::Undo(_) | Command::Redo(_))) => Keeping::Way,

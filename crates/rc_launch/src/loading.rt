@@ -52,6 +52,7 @@ impl<'a> Loaded<'a> {
         match &self.command {
             SessionCommand::Line(request) if may_raise(&request.once) => room,
             SessionCommand::Restart(_) | SessionCommand::Update(_) => room,
+            SessionCommand::Check(request) if request.repairs => room,
             _ => room.if_there(),
         }
     }
@@ -63,7 +64,8 @@ pub(crate) fn runs_scripts(command: &SessionCommand<'_>) -> bool {
     let making = &command.session().making;
     match command {
         SessionCommand::Line(request) => starts(making) && !is_edit(&request.once),
-        SessionCommand::Seal(_) | SessionCommand::Status(_) | SessionCommand::Check(_) => false,
+        SessionCommand::Check(request) => request.repairs && starts(making),
+        SessionCommand::Seal(_) | SessionCommand::Status(_) => false,
         _ => starts(making),
     }
 }
@@ -124,7 +126,8 @@ pub(crate) fn moves_by(command: &SessionCommand<'_>) -> bool
         SessionCommand::Lines(_) | SessionCommand::Restart(_) | SessionCommand::Seal(_) => true,
         SessionCommand::Line(request) => moves(Some(&request.once)),
         SessionCommand::Update(request) => !request.dry,
-        SessionCommand::Status(_) | SessionCommand::Check(_) => false,
+        SessionCommand::Check(request) => request.repairs,
+        SessionCommand::Status(_) => false,
     }
 }
 

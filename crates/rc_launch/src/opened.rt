@@ -83,10 +83,9 @@ impl<'a> Opened<'a> {
         };
         let passed = goes_on_behind(alloc, history, false).unwrap_or(false);
         match &self.loaded.command {
-            SessionCommand::Update(_) | SessionCommand::Status(_) | SessionCommand::Check(_) => {
-                false
-            }
-            SessionCommand::Restart(_) => {
+            SessionCommand::Update(_) | SessionCommand::Status(_) => false,
+            SessionCommand::Check(request) if !request.repairs => false,
+            SessionCommand::Restart(_) | SessionCommand::Check(_) => {
                 passed && !goes_back_inside(alloc, history).unwrap_or(true)
             }
             SessionCommand::Line(request) => passed && is_new_state(&request.once),

@@ -18,6 +18,7 @@ use crate::texts::LiveText;
 use rc_args::SessionCommand;
 use rc_streams::inherited::unfit_for_scripts;
 use rc_streams::live_lock::LockFault;
+use rc_streams::output_folder;
 
 /// Opens the files of a command. If its session has no database, the database is the given file.
 /// The file of the session is locked if the command does something, and not if it only shows that.
@@ -29,11 +30,9 @@ pub fn open<'a>(
     ensures { IfOk result (λ opened. AreOpened command.entry file.entry opened.0 opened.1) }
 {
     let moves = moves_by(&command);
-    if moves && runs_scripts(&command) {
-        if let Some(unfit) = unfit_for_scripts(rt) {
-            drop(command);
-            return Err(OpenFault::Unfit(unfit));
-        }
+    if let Some(fault) = unfit_for(rt, &command, moves) {
+        drop(command);
+        return Err(fault);
     }
     let (live, waits) = (command.session().live, command.session().waits);
     let is_of_lines = matches!(&command, SessionCommand::Lines(_));
@@ -49,6 +48,27 @@ pub fn open<'a>(
             drop(command);
             Err(lock_fault(live.unwrap_or(""), fault))
         }
+    }
+}
+
+// Returns the reason why the scripts of a command can't be run, if it runs any: what the program
+// inherits, or the directory that is to keep what they write.
+fn unfit_for<'a>(
+    rt: &HostRuntime,
+    command: &SessionCommand<'a>,
+    moves: bool,
+) -> Option<OpenFault<'a>> {
+    if !moves || !runs_scripts(command) {
+        return None;
+    }
+    if let Some(unfit) = unfit_for_scripts(rt) {
+        return Some(OpenFault::Unfit(unfit));
+    }
+    let session = command.session();
+    let folder = session.output?;
+    match output_folder::check(rt, folder, session.live) {
+        Ok(()) => None,
+        Err(error) => Some(OpenFault::Output(folder, error)),
     }
 }
 

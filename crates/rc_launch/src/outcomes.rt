@@ -3,7 +3,7 @@ ghost use Rattle.std.specs.Prelude.{◌≡◌, ◌≢◌, ◌⊎◌};
 ghost use Rattle.rc_cli.specs.Storing.{store_of};
 ghost use Rattle.rc_launch.specs.Halted.{IsBehindRun};
 
-use rc_cli::sessions::Devices;
+use rc_cli::sessions::{Devices, SessionFault, tell_ended};
 use rc_serve::KeepFault;
 use rc_streams::ending::{DONE, FAILED, REFUSED};
 use rc_streams::tell;
@@ -53,6 +53,37 @@ pub(crate) fn tell_unjoined<R, W, F: Write, S>(
         }
         Err(_) => fail_on(b"Memory", devices),
     }
+}
+
+/// Reports a state to which no undo goes back, and returns the status. Nothing has moved.
+pub(crate) fn tell_unkept<R, W, F: Write, S>(
+    alloc: Global,
+    state: u32,
+    devices: &mut Devices<R, W, F, S>,
+) -> u8
+    ensures refused { (result ≡ 1) ⊎ (result ≡ 111) }
+    ensures same { store_of devices.new.outputs.keeper ≡ store_of devices.old.outputs.keeper }
+{
+    match format!(in alloc; "NoState {state}") {
+        Ok(text) => {
+            tell(&mut devices.faults, text.as_bytes());
+            drop(text);
+            REFUSED
+        }
+        Err(_) => fail_on(b"Memory", devices),
+    }
+}
+
+/// Reports why the text of a session or of its database is refused, and returns the status.
+pub(crate) fn tell_unread<R, W, F: Write, S>(
+    alloc: Global,
+    fault: SessionFault<'_>,
+    devices: &mut Devices<R, W, F, S>,
+) -> u8
+    ensures refused { (result ≡ 1) ⊎ (result ≡ 111) }
+    ensures same { store_of devices.new.outputs.keeper ≡ store_of devices.old.outputs.keeper }
+{
+    tell_ended(alloc, &mut devices.faults, Err(fault))
 }
 
 /// Reports a failure, and returns the status.

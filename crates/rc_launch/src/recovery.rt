@@ -141,6 +141,7 @@ fn finder_by(is_first: bool, command: &SessionCommand<'_>) -> Finder
     }
     match command {
         SessionCommand::Update(_) | SessionCommand::Restart(_) => Finder::TakesBack,
+        SessionCommand::Check(request) if request.repairs => Finder::TakesBack,
         _ => Finder::Other,
     }
 }

@@ -1,10 +1,11 @@
 //! Carries a command out on its files.
-ghost use Rattle.std.specs.Prelude.{◌≡◌, option_map, Some};
-ghost use Rattle.rc_streams.specs.Noting.{HasFailed};
+ghost use Rattle.std.specs.Prelude.{◌≡◌, map, option_map, string_bytes, None, Some};
+ghost use Rattle.rc_streams.specs.Noting.{HasFailed, inner_of};
 ghost use Rattle.rc_args.specs.SessionAsked.{session_ask_of};
 ghost use Rattle.rc_cli.specs.Launching.{Launches};
 ghost use Rattle.rc_cli.specs.Session.{asked_with, dealt};
 ghost use Rattle.rc_cli.specs.Storing.{store_of};
+ghost use Rattle.rc_cli.specs.Straying.{LowersStrays};
 ghost use Rattle.log.specs.Handle.{max_level};
 ghost use Rattle.rc_launch.specs.Serving.{Carries, IsLogFor, IsReadAs};
 ghost use Rattle.rc_launch.specs.Serving.{logged_of};
@@ -18,8 +19,9 @@ use crate::texts::FileText;
 use log::Logged;
 use rc_args::{SessionCommand, UpdateRequest};
 use rc_cli::sessions::{Devices, Host, LiveFile, Service, Store, launch, live_file, log_for};
-use rc_cli::{check_as_asked, seal_as_asked, status_as_asked, update_as_asked};
+use rc_cli::{check_as_asked, lower_strays, seal_as_asked, status_as_asked, update_as_asked};
 use rc_streams::messages::Messages;
+use rc_streams::output_folder::OutputFolder;
 use std::io::{Read, Write};
 use std::sync::Wait;
 use std::thread::Threads;
@@ -147,6 +149,29 @@ pub(crate) fn serve_update<'x, T: Threads + Wait + Sync, R: Read, W: Write, F: W
     update_as_asked(&host, request, base, new, live, devices)
 }
 
+/// Brings strays down by the programs of the command, on this text of a database, and returns the
+/// status. The run log and the failures of the session, of which strays are no part, get nothing of
+/// it.
+pub(crate) fn serve_strays<'x, T: Threads + Wait + Sync, R: Read, W: Write, F: Write, S: Store>(
+    execution: &Execution<'x, '_, T>,
+    strays: &[String],
+    base: &[u8],
+    devices: &mut Devices<R, W, F, S>,
+) -> u8
+    requires writer { HasFailed devices.old.outputs.writer → ⊥ }
+    ensures { LowersStrays base.now
+        (session_ask_of (session_in execution.now.opened.now.loaded))
+        (map string_bytes strays.now) result (HasFailed devices.new.outputs.writer)
+        (W.contents (inner_of devices.old.outputs.writer))
+        (W.contents (inner_of devices.new.outputs.writer))
+        (F.contents devices.old.faults) (F.contents devices.new.faults) }
+{
+    let opened = execution.opened;
+    let log = log_of(execution.rt, opened);
+    let host = host_apart(execution.rt, execution.threads, &log, opened);
+    lower_strays(&host, opened.session(), strays, base, devices)
+}
+
 /// Returns the content of the file of the session, as it was read.
 pub(crate) fn read_of<'x>(opened: &'x Opened<'_>) -> LiveFile<'x>
     ensures { IsReadAs (λ bytes. bytes.items) opened.now.live.found result }
@@ -171,8 +196,10 @@ fn host_of<'h, T, L>(
     log: &'h L,
     opened: &'h Opened<'_>,
 ) -> Host<'h, T, L>
-    ensures { option_map (λ files. files.now) result.run_files
+    ensures runs { option_map (λ files. files.now) result.run_files
         ≡ option_map (λ runs. runs.files) opened.now.runs }
+    ensures outputs { option_map (λ folder. folder.path) result.outputs
+        ≡ (session_in opened.now.loaded).output }
 {
     let remembers = remembered_path(opened);
     let run_files = match opened.runs() {
@@ -185,6 +212,29 @@ fn host_of<'h, T, L>(
         log,
         run_files,
         remembers,
+        outputs: outputs_of(rt, opened),
+        alloc: rt.alloc(),
+    }
+}
+
+// Creates a host for what is no part of the session: without the files of runs.
+fn host_apart<'h, T, L>(
+    rt: &'h HostRuntime,
+    threads: &'h T,
+    log: &'h L,
+    opened: &'h Opened<'_>,
+) -> Host<'h, T, L>
+    ensures runs { result.run_files ≡ None }
+    ensures outputs { option_map (λ folder. folder.path) result.outputs
+        ≡ (session_in opened.now.loaded).output }
+{
+    Host {
+        threads,
+        runtime: rt,
+        log,
+        run_files: None,
+        remembers: None,
+        outputs: outputs_of(rt, opened),
         alloc: rt.alloc(),
     }
 }
@@ -193,6 +243,16 @@ fn host_of<'h, T, L>(
 fn remembered_path<'h>(opened: &'h Opened<'_>) -> Option<&'h str> {
     match opened.runs() {
         Some(runs) => Some(runs.path()),
+        None => None,
+    }
+}
+
+// Returns the directory that keeps what the programs of the command write, if it names one.
+fn outputs_of<'h>(rt: &'h HostRuntime, opened: &'h Opened<'_>) -> Option<OutputFolder<'h>>
+    ensures { option_map (λ folder. folder.path) result ≡ (session_in opened.now.loaded).output }
+{
+    match opened.session().output {
+        Some(path) => Some(OutputFolder::at(rt, path)),
         None => None,
     }
 }

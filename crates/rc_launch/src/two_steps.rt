@@ -23,9 +23,9 @@ use std::thread::Threads;
 
 /// The texts of a generation.
 #[derive(Drop)]
-struct Texts {
-    database: Vec<u8>,
-    session: Vec<u8>,
+pub(crate) struct Texts {
+    pub database: Vec<u8>,
+    pub session: Vec<u8>,
 }
 
 /// Carries out an update, and returns the status. Once all is done, makes the current state a stop.
@@ -57,15 +57,29 @@ pub(crate) fn restart<'x, T: Threads + Wait + Sync, R: Read, W: Write, F: Write>
     requires reader { HasFailed devices.old.reader → ⊥ }
     requires writer { HasFailed devices.old.outputs.writer → ⊥ }
 {
-    let is_cut = match devices.outputs.keeper.store.history() {
-        Some(history) => goes_back_inside(execution.rt.alloc(), history),
-        None => Ok(false),
-    };
-    match taken_back(execution, is_cut, devices) {
+    match inside_taken_back(execution, devices) {
         Ok(true) => hindered(serve_restart(execution, request, devices)),
         Ok(false) => serve_restart(execution, request, devices),
         Err(code) => code,
     }
+}
+
+/// Undoes what was cut short, if an undo takes it back without crossing a border. Returns true if
+/// it was, or the status of an undo that was not done.
+pub(crate) fn inside_taken_back<'x, T: Threads + Wait + Sync, R: Read, W: Write, F: Write>(
+    execution: &Execution<'x, '_, T>,
+    devices: &mut Devices<R, W, F, LiveStore<'x>>,
+) -> Result<bool, u8>
+    requires reader { HasFailed devices.old.reader → ⊥ }
+    requires writer { HasFailed devices.old.outputs.writer → ⊥ }
+    ensures reader { OnOk result (HasFailed devices.new.reader → ⊥) }
+    ensures writer { OnOk result (HasFailed devices.new.outputs.writer → ⊥) }
+{
+    let is_cut = match devices.outputs.keeper.store.history() {
+        Some(history) => goes_back_inside(execution.rt.alloc(), history),
+        None => Ok(false),
+    };
+    taken_back(execution, is_cut, devices)
 }
 
 // Undoes what was cut short, if something was. Returns true if it was, or the status of an undo
@@ -167,8 +181,8 @@ fn settled<R, W, F: Write>(code: u8, devices: &mut Devices<R, W, F, LiveStore<'_
     }
 }
 
-// Returns the texts of the present generation, or `None` if there is no history.
-fn texts_in<R, W, F>(
+/// Returns the texts of the present generation, or `None` if there is no history.
+pub(crate) fn texts_in<R, W, F>(
     alloc: Global,
     devices: &Devices<R, W, F, LiveStore<'_>>,
 ) -> Option<Result<Texts, HistoryFault>> {

@@ -1,0 +1,258 @@
+//! An undo that goes back to a state of the journal, by one undo after the other.
+ghost use Rattle.std.specs.Prelude.{◌≡◌, false, IfOk};
+ghost use Rattle.rc_streams.specs.Noting.{HasFailed};
+ghost use Rattle.rc_cli.specs.Storing.{store_of};
+ghost use Rattle.rc_historytext.specs.Halting.{Halts};
+ghost use Rattle.rc_historytext.specs.Travelling.{Travels};
+ghost use Rattle.rc_launch.specs.Halted.{HasHalted, IsRefusedOn};
+ghost use Rattle.rc_launch.specs.HeldHistory.{Leads};
+ghost use Rattle.rc_launch.specs.Loading.{NamesFile};
+ghost use Rattle.rc_launch.specs.Back.{ArrivesBy, ComesBackTo, CountsBack, IsBackBy, StopsBack};
+ghost use Rattle.rc_launch.specs.Back.{StopsBefore, UndoesTo, goes_over, steps_by};
+
+use crate::execution::Execution;
+use crate::live_store::LiveStore;
+use crate::loading::bytes_of;
+use crate::outcomes::{fail_on, hindered, say_done, tell_unkept, tell_unread};
+use crate::serving::read_of;
+use crate::travel::{Way, history_in, travel};
+use rc_args::SessionRequest;
+use rc_cli::sessions::{Devices, LiveFile, SessionFault, begin, spelled};
+use rc_historytext::{HistoryFault, Standing, present_of, standing_of};
+use rc_serve::ServeFault;
+use rc_streams::Failure;
+use rc_streams::ending::{DONE, FAILED};
+use std::alloc::Global;
+use std::io::{Read, Write};
+use std::sync::Wait;
+use std::thread::Threads;
+
+/// The state to which an undo goes back, and the limit of each of its runs in milliseconds, or 0 if
+/// it has none.
+#[derive(Clone, Copy)]
+pub(crate) struct Aim {
+    pub state: u32,
+    pub limit: u32,
+}
+
+/// The way back to a state: how many undos it takes, and how many generations come before the
+/// present one.
+#[derive(Clone, Copy)]
+struct Back {
+    steps: usize,
+    earlier: usize,
+}
+
+/// Goes back to a state of the present generation, and returns the status. Nothing moves if an undo
+/// would not stop there.
+pub(crate) fn go_back<'x, T: Threads + Wait + Sync, R: Read, W: Write, F: Write>(
+    execution: &Execution<'x, '_, T>,
+    aim: Aim,
+    devices: &mut Devices<R, W, F, LiveStore<'x>>,
+) -> u8
+    ensures done { result ≡ 0 → NamesFile execution.now.opened.now.loaded →
+        Leads (store_of devices.old.outputs.keeper) (store_of devices.new.outputs.keeper)
+        (ComesBackTo aim.state) }
+    ensures refused { result ≡ 1 → NamesFile execution.now.opened.now.loaded →
+        Leads (store_of devices.old.outputs.keeper) (store_of devices.new.outputs.keeper)
+        (IsRefusedOn false) }
+    ensures stopped { result ≡ 2 → NamesFile execution.now.opened.now.loaded →
+        Leads (store_of devices.old.outputs.keeper) (store_of devices.new.outputs.keeper)
+        (StopsBack aim.state) }
+{
+    match unread(execution, history_in(devices)) {
+        Some(fault) => tell_unread(execution.rt.alloc(), fault, devices),
+        None => match devices.outputs.keeper.store.history() {
+            Some(_) => go_back_on(execution, aim, devices),
+            None if aim.state == 0 => say_done(b"ok\n", devices),
+            None => tell_unkept(execution.rt.alloc(), aim.state, devices),
+        },
+    }
+}
+
+// Returns why the texts of a session and of its database are refused, if they are: those of the
+// present generation of a history, or, where there is none, those that were read.
+fn unread<'f, T>(execution: &Execution<'_, '_, T>, history: &[u8]) -> Option<SessionFault<'f>> {
+    let (alloc, opened) = (execution.rt.alloc(), execution.opened);
+    if history.is_empty() {
+        let base = bytes_of(&opened.loaded.base);
+        return unread_texts(alloc, opened.session(), base, read_of(opened));
+    }
+    match present_of(alloc, history) {
+        Ok(present) => {
+            let live = LiveFile::Text(present.session);
+            unread_texts(alloc, opened.session(), present.database, live)
+        }
+        Err(_) => Some(SessionFault::Failed(ServeFault::Memory)),
+    }
+}
+
+// Returns why the text of a database or that of a session of it is refused, if one is.
+fn unread_texts<'f>(
+    alloc: Global,
+    request: &SessionRequest<'_>,
+    base: &[u8],
+    live: LiveFile<'_>,
+) -> Option<SessionFault<'f>> {
+    let db = match spelled(alloc, Some(base), &[]) {
+        Ok((db, _none)) => db,
+        Err(fault) => return Some(fault),
+    };
+    match begin(alloc, db, request, live) {
+        Ok(session) => {
+            drop(session);
+            None
+        }
+        Err(fault) => Some(fault),
+    }
+}
+
+// Goes back to a state of the present generation of the history that is kept, and returns the
+// status.
+fn go_back_on<'x, T: Threads + Wait + Sync, R: Read, W: Write, F: Write>(
+    execution: &Execution<'x, '_, T>,
+    aim: Aim,
+    devices: &mut Devices<R, W, F, LiveStore<'x>>,
+) -> u8
+    ensures done { result ≡ 0 → NamesFile execution.now.opened.now.loaded →
+        Leads (store_of devices.old.outputs.keeper) (store_of devices.new.outputs.keeper)
+        (ComesBackTo aim.state) }
+    ensures refused { result ≡ 1 → NamesFile execution.now.opened.now.loaded →
+        Leads (store_of devices.old.outputs.keeper) (store_of devices.new.outputs.keeper)
+        (IsRefusedOn false) }
+    ensures stopped { result ≡ 2 → NamesFile execution.now.opened.now.loaded →
+        Leads (store_of devices.old.outputs.keeper) (store_of devices.new.outputs.keeper)
+        (StopsBack aim.state) }
+{
+    let alloc = execution.rt.alloc();
+    match steps_back(alloc, history_in(devices), aim.state) {
+        Ok(Some(back)) if back.steps == 0 => say_done(b"ok\n", devices),
+        Ok(Some(back)) => arrive(execution, aim, back, devices),
+        Ok(None) => tell_unkept(alloc, aim.state, devices),
+        Err(_) => fail_on(b"Memory", devices),
+    }
+}
+
+// Undoes as often as a way back says, tests where that has led, and returns the status.
+fn arrive<'x, T: Threads + Wait + Sync, R: Read, W: Write, F: Write>(
+    execution: &Execution<'x, '_, T>,
+    aim: Aim,
+    back: Back,
+    devices: &mut Devices<R, W, F, LiveStore<'x>>,
+) -> u8
+    ensures done { result ≡ 0 → NamesFile execution.now.opened.now.loaded →
+        Leads (store_of devices.old.outputs.keeper) (store_of devices.new.outputs.keeper)
+        (ArrivesBy aim.state back) }
+    ensures refused { result ≡ 1 → NamesFile execution.now.opened.now.loaded →
+        Leads (store_of devices.old.outputs.keeper) (store_of devices.new.outputs.keeper)
+        (IsRefusedOn false) }
+    ensures stopped { result ≡ 2 → NamesFile execution.now.opened.now.loaded →
+        Leads (store_of devices.old.outputs.keeper) (store_of devices.new.outputs.keeper)
+        (StopsBefore back.steps) }
+{
+    match undo_times(execution, aim.limit, back.steps, devices) {
+        DONE => {}
+        code => return code,
+    }
+    match steps_back(execution.rt.alloc(), history_in(devices), aim.state) {
+        Ok(Some(now)) if now.steps == 0 && now.earlier == back.earlier => DONE,
+        Ok(_) => fail_on(b"Strange", devices),
+        Err(_) => fail_on(b"Memory", devices),
+    }
+}
+
+// Undoes so many times, until an undo is not done, and returns the status.
+fn undo_times<'x, T: Threads + Wait + Sync, R: Read, W: Write, F: Write>(
+    execution: &Execution<'x, '_, T>,
+    limit: u32,
+    steps: usize,
+    devices: &mut Devices<R, W, F, LiveStore<'x>>,
+) -> u8
+    ensures done { result ≡ 0 → NamesFile execution.now.opened.now.loaded →
+        Leads (store_of devices.old.outputs.keeper) (store_of devices.new.outputs.keeper)
+        (UndoesTo steps) }
+    ensures refused { result ≡ 1 → NamesFile execution.now.opened.now.loaded →
+        Leads (store_of devices.old.outputs.keeper) (store_of devices.new.outputs.keeper)
+        (IsRefusedOn false) }
+    ensures stopped { result ≡ 2 → NamesFile execution.now.opened.now.loaded →
+        Leads (store_of devices.old.outputs.keeper) (store_of devices.new.outputs.keeper)
+        (StopsBefore steps) }
+{
+    for done in 0..steps {
+        match undo_once(execution, limit, devices) {
+            DONE => {}
+            code => return if done == 0 { code } else { hindered(code) },
+        }
+    }
+    DONE
+}
+
+// Undoes once, and returns the status.
+fn undo_once<'x, T: Threads + Wait + Sync, R: Read, W: Write, F: Write>(
+    execution: &Execution<'x, '_, T>,
+    limit: u32,
+    devices: &mut Devices<R, W, F, LiveStore<'x>>,
+) -> u8
+    ensures done { result ≡ 0 → NamesFile execution.now.opened.now.loaded →
+        Leads (store_of devices.old.outputs.keeper) (store_of devices.new.outputs.keeper)
+        (Travels false) }
+    ensures halted { HasHalted result → NamesFile execution.now.opened.now.loaded →
+        Leads (store_of devices.old.outputs.keeper) (store_of devices.new.outputs.keeper)
+        (Halts false) }
+    ensures refused { result ≡ 1 → NamesFile execution.now.opened.now.loaded →
+        Leads (store_of devices.old.outputs.keeper) (store_of devices.new.outputs.keeper)
+        (IsRefusedOn false) }
+{
+    if devices.reader.failed() || devices.outputs.writer.failed() {
+        return FAILED;
+    }
+    let way = Way {
+        is_on: false,
+        limit,
+    };
+    travel(execution, way, devices)
+}
+
+// Returns the way from where a history stands back to a state of its present generation, or none if
+// an undo would not stop there.
+fn steps_back(alloc: Global, history: &[u8], state: u32) -> Result<Option<Back>, HistoryFault>
+    ensures { IfOk result (CountsBack state history.now) }
+{
+    match standing_of(alloc, history) {
+        Ok(standing) => Ok(back_by(&standing, state as usize)),
+        Err(fault) => Err(fault),
+    }
+}
+
+// Returns the way back to a state, or none if an undo would not stop there.
+fn back_by(standing: &Standing<'_>, state: usize) -> Option<Back>
+    ensures { IsBackBy state standing.now result }
+{
+    match steps_by(standing, state) {
+        Some(steps) => Some(Back {
+            steps,
+            earlier: standing.earlier,
+        }),
+        None => None,
+    }
+}
+
+// Returns how many undos lead back to a state, or none if an undo would not stop there.
+fn steps_by(standing: &Standing<'_>, state: usize) -> Option<usize>
+    ensures { result ≡ steps_by state standing.now }
+{
+    if standing.before == state {
+        return Some(0);
+    }
+    if standing.before < state || goes_over(standing, state) {
+        return None;
+    }
+    Some(standing.before - state)
+}
+
+// Returns true if an undo goes on from a state before the current one of the present generation.
+fn goes_over(standing: &Standing<'_>, state: usize) -> bool
+    ensures { result ≡ goes_over state standing.now }
+{
+    state == 0 && standing.first_passed && standing.earlier > 0
+}
