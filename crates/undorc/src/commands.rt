@@ -4,6 +4,7 @@ ghost use Rattle.rc_streams.specs.Noting.{HasFailed};
 use crate::history;
 use crate::notes::{tell_left, tell_note, tell_opening, tell_session};
 use crate::restarts::tell_down;
+use crate::tails::show_tails;
 use crate::updates::tell_why;
 use crate::workers::tell_workers;
 use log::warn;
@@ -68,6 +69,7 @@ fn carry_out_on<'x, T: Threads + Wait + Sync>(
     } = devices;
     let store = store_in(outputs);
     enter(rt, opened, status);
+    show_tails(rt, opened, status);
     tell_hints(rt, opened, typed.kept(), &answers, store.error(), &told);
     tell_workers(rt, threads, &told);
     tell_why(rt, opened, status);

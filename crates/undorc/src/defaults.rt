@@ -1,6 +1,7 @@
-//! The files of `-b` and `-l`, and the programs of `-r` and `-c`, if the arguments name none: the
-//! environment's UNDORC_DB, UNDORC_LIVE, UNDORC_RUNNER and UNDORC_CONTROLLER.
-use rc_args::{Defaults, Invocation, Making, Once, SessionCommand};
+//! The files of `-b` and `-l`, the programs of `-r` and `-c`, and the directory of `-o`, if the
+//! arguments name none: the environment's UNDORC_DB, UNDORC_LIVE, UNDORC_RUNNER, UNDORC_CONTROLLER
+//! and UNDORC_OUTPUT.
+use rc_args::{Defaults, Invocation, Making, Once, SessionCommand, Verbosity};
 use rc_script::SessionLine;
 use rc_session::Command;
 use std::env::{self, VarError};
@@ -13,6 +14,7 @@ pub struct DefaultTexts {
     live: Result<String, VarError>,
     runner: Result<String, VarError>,
     controller: Result<String, VarError>,
+    output: Result<String, VarError>,
 }
 
 impl DefaultTexts {
@@ -25,6 +27,7 @@ impl DefaultTexts {
             live: named(&self.live, "\0UNDORC_LIVE")?,
             runner: named(&self.runner, "\0UNDORC_RUNNER")?,
             controller: named(&self.controller, "\0UNDORC_CONTROLLER")?,
+            output: named(&self.output, "\0UNDORC_OUTPUT")?,
         })
     }
 }
@@ -36,6 +39,7 @@ pub fn defaults_at(rt: &HostRuntime) -> DefaultTexts {
         live: env::var(rt, "UNDORC_LIVE"),
         runner: env::var(rt, "UNDORC_RUNNER"),
         controller: env::var(rt, "UNDORC_CONTROLLER"),
+        output: env::var(rt, "UNDORC_OUTPUT"),
     }
 }
 
@@ -60,7 +64,7 @@ pub fn unread_in(invocation: &Invocation<'_>) -> Option<&'static str> {
         Invocation::Db(request, base) => unread(*base).or(unread(request.live)),
         Invocation::Plan(_, base) | Invocation::Replay(base) => unread(*base),
         Invocation::Session(command, base) => unread_of(command, *base),
-        Invocation::Cancel(live) => unread(*live),
+        Invocation::Cancel(_, live) => unread(*live),
     }
 }
 
@@ -71,6 +75,21 @@ fn unread_of(command: &SessionCommand<'_>, base: Option<&str>) -> Option<&'stati
         .or(unread(command.session().live))
         .or(unread(runner))
         .or(unread(controller))
+        .or(unread(output_of(command)))
+}
+
+/// Returns the directory of outputs that a command may use, as its options or the environment name
+/// it.
+pub fn output_of<'a>(command: &SessionCommand<'a>) -> Option<&'a str> {
+    let session = command.session();
+    if let Making::Table(_) = &session.making {
+        return None;
+    }
+    match command {
+        SessionCommand::Status(_) if session.verbosity == Verbosity::Transitions => session.output,
+        _ if runs_scripts(command) => session.output,
+        _ => None,
+    }
 }
 
 /// Returns the runner and the controller that a command may start, as its options or the
@@ -80,7 +99,7 @@ pub fn programs_of<'a>(command: &SessionCommand<'a>) -> (Option<&'a str>, Option
         return (None, None);
     };
     match command {
-        SessionCommand::Check(_) => (None, programs.controller),
+        SessionCommand::Check(request) if !request.repairs => (None, programs.controller),
         _ if runs_scripts(command) => (programs.runner, programs.controller),
         _ => (None, None),
     }
@@ -92,7 +111,8 @@ fn runs_scripts(command: &SessionCommand<'_>) -> bool {
         SessionCommand::Lines(_) | SessionCommand::Restart(_) => true,
         SessionCommand::Line(request) => is_run(&request.once),
         SessionCommand::Update(request) => !request.dry,
-        SessionCommand::Seal(_) | SessionCommand::Status(_) | SessionCommand::Check(_) => false,
+        SessionCommand::Check(request) => request.repairs,
+        SessionCommand::Seal(_) | SessionCommand::Status(_) => false,
     }
 }
 
@@ -111,6 +131,7 @@ fn unread(named: Option<&str>) -> Option<&'static str> {
         "\0UNDORC_LIVE" => Some("UNDORC_LIVE"),
         "\0UNDORC_RUNNER" => Some("UNDORC_RUNNER"),
         "\0UNDORC_CONTROLLER" => Some("UNDORC_CONTROLLER"),
+        "\0UNDORC_OUTPUT" => Some("UNDORC_OUTPUT"),
         _ => None,
     }
 }

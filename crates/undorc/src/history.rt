@@ -1,5 +1,5 @@
-//! The file of who did what and when: `FILE.log` beside `FILE`, if it exists. Each command that
-//! altered the session appends a line, while it has the lock.
+//! The file of who did what and when: `FILE.log` beside `FILE`, if it exists or FILE is that of the
+//! environment. Each command that altered the session appends a line, while it has the lock.
 
 use crate::own_name::words;
 use jiff::Timestamp;
@@ -8,49 +8,139 @@ use rc_launch::LiveText;
 use rc_names::NoMem;
 use rc_streams::command_log;
 use rc_streams::messages::{MESSAGE, Messages};
+use std::env;
 use std::fs::File;
 use std::io::{self, Write};
 
-/// Appends a line for this command, which ends with this status, if the log exists and the text of
-/// the session has changed. Warns if the line can't be written.
+/// Appends a line for this command, which ends with this status, if the text of the session has
+/// changed and there is to be a log. Warns if the line can't be written.
 pub fn enter(rt: &HostRuntime, path: &str, before: Option<&[u8]>, status: u8) {
     let Ok(live) = LiveText::read(rt, Some(path)) else {
         return;
     };
     match live.bytes() {
-        Some(after) if before != Some(after) => enter_at(rt, path, status, current_of(after)),
+        Some(after) if before != Some(after) => {
+            if let Err(error) = enter_at(rt, path, status, before, after) {
+                warn!(Messages(rt); target: MESSAGE,
+                    "{path}.log: {error}: this command is not entered there");
+            }
+        }
         _ => {}
     }
     drop(live);
 }
 
-/// Appends a line for a command that leaves the session at the state of this number, if the log
-/// exists. Warns if the line can't be written.
-fn enter_at(rt: &HostRuntime, path: &str, status: u8, at: usize) {
-    let entered = match command_log::open(rt, path) {
-        Ok(Some(file)) => {
-            let entered = append(rt, &file, status, at);
+/// Appends the lines of a command that leads from one text of the session to another. If the log
+/// does not exist, creates it for the file of the environment alone.
+fn enter_at(
+    rt: &HostRuntime,
+    path: &str,
+    status: u8,
+    before: Option<&[u8]>,
+    after: &[u8],
+) -> io::Result<()> {
+    match command_log::open(rt, path, is_usual(rt, path))? {
+        Some(file) => {
+            let entered = append(rt, &file, status, before, after);
             drop(file);
             entered
         }
-        Ok(None) => Ok(()),
-        Err(error) => Err(error),
-    };
-    if let Err(error) = entered {
-        warn!(Messages(rt); target: MESSAGE,
-            "{path}.log: {error}: this command is not entered there");
+        None => Ok(()),
     }
 }
 
-/// Appends the line of this command. If it can't be written whole, nothing of it stays.
-fn append(rt: &HostRuntime, file: &File, status: u8, at: usize) -> io::Result<()> {
+/// Returns true if UNDORC_LIVE names the file of a session.
+fn is_usual(rt: &HostRuntime, path: &str) -> bool {
+    match env::var(rt, "UNDORC_LIVE") {
+        Ok(usual) => {
+            let is_usual = usual.as_str() == path;
+            drop(usual);
+            is_usual
+        }
+        Err(_) => false,
+    }
+}
+
+/// Appends the lines of this command. If they can't be written whole, nothing of them stays.
+fn append(
+    rt: &HostRuntime,
+    file: &File,
+    status: u8,
+    before: Option<&[u8]>,
+    after: &[u8],
+) -> io::Result<()> {
     let words = words(rt)?;
-    let line = line_of(rt, &words, status, at);
+    let line = line_of(rt, &words, status, current_of(after));
     drop(words);
     let line = line?;
-    let written = write_whole(file, line.as_bytes());
-    drop(line);
+    let lines = with_moves(line, live_in(before.unwrap_or(&[])), live_in(after))?;
+    let written = write_whole(file, &lines);
+    drop(lines);
     written
+}
+
+/// Returns a line with one behind it that has the names which are in the second of two lists alone,
+/// after a plus, and those that are in the first alone, after a minus. The names of both lists are
+/// in byte order, with a blank between them. If both are the same, there is no such line.
+fn with_moves(line: String, from: &[u8], to: &[u8]) -> Result<Vec<u8>, NoMem> {
+    let mut lines = line.into_bytes();
+    let end = lines.len();
+    lines.push(b' ')?;
+    let start = lines.len();
+    add_others(&mut lines, b'+', to, from)?;
+    add_others(&mut lines, b'-', from, to)?;
+    if lines.len() > start {
+        lines.push(b'\n')?;
+    } else {
+        lines.truncate(end);
+    }
+    Ok(lines)
+}
+
+/// Appends the names of a list that are not in another one, each after a sign. The names of both
+/// are in byte order.
+fn add_others(lines: &mut Vec<u8>, sign: u8, names: &[u8], others: &[u8]) -> Result<(), NoMem> {
+    let mut others = others;
+    for name in names.split(|byte| *byte == b' ') {
+        if name.is_empty() {
+            continue;
+        }
+        others = from_name(others, name);
+        if first_name(others) != name {
+            lines.extend_from_slice(b" ")?;
+            lines.push(sign)?;
+            lines.extend_from_slice(name)?;
+        }
+    }
+    Ok(())
+}
+
+/// Returns what is left of a list from the first name on that is not before this one.
+fn from_name<'a>(names: &'a [u8], name: &[u8]) -> &'a [u8] {
+    let mut left = names;
+    for _ in 0..names.len() {
+        let first = first_name(left);
+        if left.is_empty() || first >= name {
+            return left;
+        }
+        left = left.get(first.len() + 1..).unwrap_or(&[]);
+    }
+    left
+}
+
+/// Returns the first name of a list, whose names have a blank between them, or no bytes.
+fn first_name(names: &[u8]) -> &[u8] {
+    names.split(|byte| *byte == b' ').next().unwrap_or(&[])
+}
+
+/// Returns the names that are live in the text of a session.
+fn live_in(text: &[u8]) -> &[u8] {
+    for line in text.split(|byte| *byte == b'\n') {
+        if let Some(names) = line.strip_prefix(b"now ".as_slice()) {
+            return names;
+        }
+    }
+    &[]
 }
 
 /// Appends bytes to a file, or none of them.

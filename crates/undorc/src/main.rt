@@ -5,10 +5,12 @@ mod cancelling;
 mod commands;
 mod defaults;
 mod history;
+mod killing;
 mod notes;
 mod own_name;
 mod programs;
 mod restarts;
+mod tails;
 mod updates;
 mod usage;
 mod workers;
@@ -48,7 +50,7 @@ fn main(rt: HostRuntime) -> ExitCode {
                     Invocation::Db(request, file) => query(&rt, Query::Db(&request, None), file),
                     Invocation::Plan(request, file) => query(&rt, Query::Plan(&request), file),
                     Invocation::Replay(file) => query(&rt, Query::Replay, file),
-                    Invocation::Cancel(file) => cancel(&rt, file.unwrap_or("")),
+                    Invocation::Cancel(kills, file) => cancel(&rt, file.unwrap_or(""), kills),
                     Invocation::Version => version(&rt),
                 },
                 Err(status) => status,

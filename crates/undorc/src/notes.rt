@@ -109,6 +109,7 @@ pub fn tell_opening(rt: &HostRuntime, fault: &OpenFault<'_>) -> u8 {
     match fault {
         OpenFault::Unfit(unfit) => tell_inherited(rt, *unfit),
         OpenFault::File(path, error) => tell_file(rt, path, error),
+        OpenFault::Output(folder, error) => tell_output(rt, folder, error),
         OpenFault::History(path, fault) => tell_no_history(rt, path, *fault),
         OpenFault::Busy(path, owner) => {
             let status = tell_failure(rt, "Busy");
@@ -143,6 +144,24 @@ fn tell_inherited(rt: &HostRuntime, unfit: Unfit) -> u8 {
         Unfit::SizeLimited => info!(Messages(rt); target: HINT,
             "files are limited in size, at which SIGXFSZ ends undorc: raise it by ulimit -f unlimited"),
     }
+    status
+}
+
+/// Reports why a directory can't keep what scripts write, and returns the status. Of a directory
+/// that is open to others, the text of the error speaks as of a file there.
+fn tell_output(rt: &HostRuntime, folder: &str, error: &io::Error) -> u8 {
+    let Ok(text) = format!(in rt.alloc(); "{error}") else {
+        return tell_failure(rt, "Memory");
+    };
+    let status = match text.as_str().strip_suffix(" into its directory") {
+        Some(who) => {
+            let status = tell_failure(rt, "Io");
+            info!(Messages(rt); target: HINT, "{folder}: {who} into it");
+            status
+        }
+        None => tell_file(rt, folder, error),
+    };
+    drop(text);
     status
 }
 

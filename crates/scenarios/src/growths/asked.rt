@@ -24,6 +24,7 @@ const DEFAULTS: Defaults<'static> = Defaults {
     live: None,
     runner: None,
     controller: None,
+    output: None,
 };
 
 /// A run of `plan`, `db` or `replay` on the sample.
@@ -114,7 +115,7 @@ fn word_of(asked: &Invocation<'_>) -> &'static str {
         Invocation::Session(SessionCommand::Seal(_), _) => "seal",
         Invocation::Session(SessionCommand::Status(_), _) => "status",
         Invocation::Session(SessionCommand::Check(_), _) => "check",
-        Invocation::Cancel(_) => "cancel",
+        Invocation::Cancel(_, _) => "cancel",
         Invocation::Version => "version",
     }
 }

@@ -174,7 +174,7 @@ pub(crate) fn is_telling(rt: &HostRuntime, db: &Db) -> Result<bool, NoMem> {
     let log = Messages(rt);
     let alloc = rt.alloc();
     let inner = TableGate::new(Vec::new(alloc), StepClock::new(Vec::new(alloc)));
-    let gate = Telling::new(rt, &log, alloc, db, inner)?;
+    let gate = Telling::new(rt, &log, alloc, db, inner, None)?;
     let is_new = gate.now() == 0;
     drop(gate);
     Ok(is_new)
