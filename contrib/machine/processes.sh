@@ -11,9 +11,12 @@ become_undorc() {
     fi
     command=$1
     shift
+    # The option -r of check is another one, so check gets its runner by the environment.
+    [ "$command" = check ] || set -- -r "$here/oneshot" "$@"
     set -- "PATH=$UNDORC_PATH" "UNDORC_LOCK=$UNDORC_LIVE.lock" "$here/../orderly" \
         "$command" -b "$UNDORC_DB" -l "$UNDORC_LIVE" -W -v \
-        -c "$here/controller" -r "$here/oneshot" -T "$UNDORC_USUAL" -w "$UNDORC_WORKERS" "$@"
+        -c "$here/controller" -T "$UNDORC_USUAL" -w "$UNDORC_WORKERS" "$@"
+    [ "$command" != check ] || set -- "UNDORC_SCRIPTS=$UNDORC_RUNNER" "UNDORC_RUNNER=$here/oneshot" "$@"
     for variable in $settings UNDORC_FORCE $UNDORC_PASS; do
         case $variable in *[!A-Za-z0-9_]* | [0-9]*) continue ;; esac
         eval "[ -z \"\${$variable+is}\" ] || set -- \"$variable=\$$variable\" \"\$@\""

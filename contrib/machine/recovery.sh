@@ -35,7 +35,7 @@ bring_back() (
     { in_trial -x none $live $unsure && in_trial -D $unsure; } || true
     # shellcheck disable=SC2086
     in_trial $live || true
-    rm -f "$UNDORC_LIVE.trial" "$UNDORC_LIVE.trial.lock" "$UNDORC_LIVE.trial.run"
+    for ending in '' .lock .run .log .failed; do rm -f "$UNDORC_LIVE.trial$ending"; done
 )
 
 # enter: enters what a killed command has moved, and brings what was on its way to where the session has

@@ -42,11 +42,12 @@ remove_supervisor() {
     within 150 is_state "$copy" unsupervised
 }
 
-# has_ended DIR: whether the daemon that was started is gone; sets `end` to its status, which
-# wrapped-finish has written
+# has_ended DIR: whether the daemon that was started is gone; sets `end` to its status. wrapped-finish
+# writes that, which may begin late on a busy machine.
 has_ended() {
     end=
-    if [ -e "$1/ended" ]; then read -r end < "$1/ended"; else [ "$(pid_of "$1")" != "$started" ]; fi
+    [ -e "$1/ended" ] || [ "$(pid_of "$1")" != "$started" ] || return 1
+    ! within 20 test -s "$1/ended" || read -r end < "$1/ended"
 }
 
 # is_ready DIR: whether its check succeeds, which may take as long as this script

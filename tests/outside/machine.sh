@@ -10,7 +10,7 @@ set -eu
 tests=$(realpath "$(dirname "$0")")
 program=$(realpath "$1")
 shift
-[ $# -gt 0 ] || set -- set contained first container update renames undone pipes force other flaky full hung killed apply settings clock carried edited oneshots rescue command overlay
+[ $# -gt 0 ] || set -- set contained first container update renames undone pipes force other flaky full hung killed thirty apply settings clock carried edited oneshots rescue command overlay repair
 cases=$*
 limit=900
 
