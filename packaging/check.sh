@@ -14,7 +14,7 @@ samples=$(realpath "$samples")
 room=$(mktemp -d)
 trap 'rm -rf "$room"' EXIT
 cd "$room"
-unset UNDORC_DB UNDORC_LIVE UNDORC_RUNNER UNDORC_CONTROLLER
+unset UNDORC_DB UNDORC_LIVE UNDORC_RUNNER UNDORC_CONTROLLER UNDORC_OUTPUT
 passed=0
 failed=0
 

@@ -61,7 +61,7 @@ offers() {
 
 # options_of COMMAND: what is wanted of it.
 options_of() {
-    sed -n "s/^$1 \(-.\).*/\1/p" options
+    sed -n "s/^$1 \(-[^=]*\).*/\1/p" options
     printf '%s\n' -h --help
 }
 
@@ -108,7 +108,7 @@ if command -v zsh > /dev/null; then
     equals 'zsh, the commands'
     while read -r command; do
         asks "$command"
-        sed -n -e 's/^\(([^)]*)\)*\**\(-[A-Za-z]\)+\[.*/\2=/p' -e 's/^\(([^)]*)\)*\(-[A-Za-z]\)\[.*/\2/p' \
+        sed -n -e 's/^\(([^)]*)\)*\**\(-[A-Za-z]\)+\[.*/\2=/p' -e 's/^\(--[a-z]*=\)\[.*/\1/p' -e 's/^\(([^)]*)\)*\(-[A-Za-z]\)\[.*/\2/p' \
             handed | grep -v -x -e -h | sed "s/^/$command /"
     done < own > found
     cp options wanted

@@ -170,11 +170,14 @@ def arguments():
     """The commands in order, each with its arguments: the form of one, and its texts."""
     told = (TOP / TOLD).read_text()
     text = r'"(?:[^"\\]|\\.)*"'
-    one = rf"(Flag|Valued|Needed|Repeated|Words)\(((?:[^()\"']|{text}|'.')*)\)|\b([A-Z_]+)\b|\b(Query)\b"
+    one = rf"(Flag|Valued|Needed|Repeated|Long|Words)\(((?:[^()\"']|{text}|'.')*)\)|\b([A-Z_]+)\b|\b(Query)\b"
 
     def parsed(source):
         for form, inner, name, query in re.findall(one, source):
-            yield from named[name] if name else [(form or query, re.findall(r"'(.)'|\"([^\"]*)\"|(\d+)", inner))]
+            texts = re.findall(r"'(.)'|\"([^\"]*)\"|(\d+)", inner)
+            if form == "Long":
+                texts.insert(1, ("-", *texts[0][1:]))
+            yield from named[name] if name else [(form or query, texts)]
 
     named = {}
     for name, many, value in re.findall(r"^const (\w+): (\[?)ToldArg(?:; \d+\])? = ((?:.|\n)*?);$", told, re.M):
@@ -185,7 +188,13 @@ def arguments():
 
 def synopsis(page):
     """The lines of the synopsis."""
-    values = dict(re.findall(r"^\.It Fl (\w) Ar (\S+)$", page, re.M))
+    values = {}
+    for letter, name in re.findall(r"^\.It Fl (\w|-\w+) Ar (\S+)$", page, re.M):
+        values.setdefault(letter, []).append(name)
+
+    def value_of(letter, told):
+        """The name of an option's value: that of its heading, or of several headings the one that is told."""
+        return told.lower() if told.lower() in values[letter] else values[letter][-1]
 
     def place_of(arg):
         name = arg[1][0]
@@ -196,7 +205,7 @@ def synopsis(page):
         options = [arg for arg in args if arg[0] not in ("Query", "Words")]
         letters = {texts[0]: texts[1] for _, texts in options}
         for form, texts in sorted(options, key=place_of):
-            said = f"Fl {texts[1]}" + ("" if form == "Flag" else f" Ar {values[texts[1]]}")
+            said = f"Fl {texts[1]}" + ("" if form == "Flag" else f" Ar {value_of(texts[1], texts[2])}")
             if all(name in letters for name in APART) and texts[0] in APART:
                 if texts[0] != APART[0]:
                     continue

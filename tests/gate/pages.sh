@@ -42,7 +42,8 @@ sed -n '/^Commands:/,/^$/s/^  \([a-z][a-z]*\)  .*/\1/p' said > commands
 grep -v -x help commands > own
 while read -r command; do
     "$program" "$command" -h > said < /dev/null || true
-    sed -n -e "s/^  \(-[A-Za-z]\) <.*/$command \1=/p" -e "s/^  \(-[A-Za-z]\)  .*/$command \1/p" said
+    sed -n -e "s/^ *\(-[A-Za-z]\) <.*/$command \1=/p" -e "s/^  \(-[A-Za-z]\)  .*/$command \1/p" \
+        -e "s/^ *\(--[a-z]*\) <.*/$command \1=/p" said
     [ "$command" != db ] || cp said asked
 done < own > options
 sed -n 's/^ *<QUERY>.*: //p' asked | sed -e 's/ or /, /' -e 's/, */\n/g' > queries
@@ -85,7 +86,7 @@ equals 'the options of the synopsis'
 
 sed -e 's/.* //' options > wanted
 section undorc.1 OPTIONS |
-    sed -n -e 's/^\.It Fl \(.\)$/-\1/p' -e 's/^\.It Fl \(.\) Ar .*/-\1=/p' > found
+    sed -n -e 's/^\.It Fl \(.\)$/-\1/p' -e 's/^\.It Fl \(-*[A-Za-z]*\) Ar .*/-\1=/p' > found
 equals 'the options that are described'
 
 cp queries wanted

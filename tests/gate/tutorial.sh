@@ -66,7 +66,8 @@ groups() {
 # masked FILE: it without what differs from run to run.
 masked() {
     sed -e 's/^undorc: *[0-9]*\.[0-9]* s  /undorc: TIME  /' -e 's/(pid [0-9]*)/(pid N)/' \
-        -e 's/[0-9][0-9]* seconds/N seconds/g' "$1" | awk '
+        -e 's/[0-9][0-9]* seconds/N seconds/g' \
+        -e 's/[0-9]\{4\}-[0-9][0-9]-[0-9][0-9]T[0-9:]*Z/DATE/g' "$1" | awk '
         function flush(  i, j, held) {
             for (i = 2; i <= count; i++) {
                 held = lines[i]

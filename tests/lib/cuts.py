@@ -8,7 +8,7 @@ import os
 PR_SET_CHILD_SUBREAPER = 36
 
 # The defaults of whoever runs the tests are none of theirs.
-for default in ("UNDORC_RUNNER", "UNDORC_CONTROLLER"):
+for default in ("UNDORC_RUNNER", "UNDORC_CONTROLLER", "UNDORC_OUTPUT"):
     os.environ.pop(default, None)
 
 

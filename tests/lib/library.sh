@@ -11,7 +11,7 @@ failed=0
 skipped=0
 patience=30
 # The defaults of whoever runs the tests are none of theirs.
-unset UNDORC_DB UNDORC_LIVE UNDORC_RUNNER UNDORC_CONTROLLER
+unset UNDORC_DB UNDORC_LIVE UNDORC_RUNNER UNDORC_CONTROLLER UNDORC_OUTPUT
 # shellcheck source=tally.sh
 . "$top/tests/lib/tally.sh"
 

@@ -7,7 +7,7 @@ makes of it.
 Scripts of six services record what they did. A change, an undo, a restart, an update, and an undo and a redo of an
 update are run under strace, again and again. In each run one call fails, or the program is killed there. So is the
 recovery of each of these after a kill. Then the next command enters what was moved. FILE agrees with what the scripts
-recorded, but for what was under way; what is live is closed; nothing but FILE.failed is left. An undo, and in another run the
+recorded, but for what was under way; what is live is closed; nothing but FILE.failed and FILE.log is left. An undo, and in another run the
 same command, end where they are to end. A command that says that all is done has done it.
 
 By root each command is run on a disk that is full, too. Each call fails by one error, and of calls that only look each
@@ -270,7 +270,7 @@ class Situation:
         if (moved[1] ^ recorded(self.bench.files()[1])) - unended:
             raise Wrong(f"{show(moved)} is up, and by the scripts {show(('', recorded(self.bench.files()[1])))}")
         beside = self.bench.files()[0]
-        if set(beside) - {"live.failed"} != {"live", "live.lock"}:
+        if set(beside) - {"live.failed", "live.log"} != {"live", "live.lock"}:
             raise Wrong(f"left beside FILE: {' '.join(sorted(beside))}")
         return moved
 

@@ -7,7 +7,7 @@ here=$(realpath "$(dirname "$0")")
 program=$(realpath "$1")
 shift
 [ $# -gt 0 ] || set -- rows words inputs bounds pictures messages terminal sessions scripts schedules starting live \
-    order locking rights recovery asking left checking oneshots reports seals restarts typed status failures update histories readme devices keeping memory held drawn compile
+    order locking rights recovery asking left checking repairing oneshots reports seals restarts typed status failures outputs update histories back readme devices keeping memory held drawn compile
 topics=$*
 . "$here/../lib/library.sh"
 

@@ -20,7 +20,7 @@ from draw_histories import HistoryDrawer
 from shrink import shrunk
 
 # The defaults of whoever runs the tests are none of theirs.
-for default in ("UNDORC_DB", "UNDORC_LIVE", "UNDORC_RUNNER", "UNDORC_CONTROLLER"):
+for default in ("UNDORC_DB", "UNDORC_LIVE", "UNDORC_RUNNER", "UNDORC_CONTROLLER", "UNDORC_OUTPUT"):
     os.environ.pop(default, None)
 
 PATIENCE = 60000

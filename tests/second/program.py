@@ -184,7 +184,7 @@ def seal(case, answer):
 
 
 def status(case, answer):
-    """Where services stand: those that are named, or all."""
+    """Where services stand: those that are named, or all. Without a file none is shown."""
     history, _ = begun(case, answer)
     base, now = history.now().base, history.now().line.now()
     try:
@@ -194,7 +194,7 @@ def status(case, answer):
         answer.status = 1
         return
     asked = plans.selected(base, now.bundles, case.words) if case.words else set(base.services)
-    for name in sorted(asked):
+    for name in sorted(asked) if case.kept is not None else ():
         answer.out += name + (b" up\n" if name in now.live else b" down\n")
     answer.status = 3 if case.words and asked - now.live else 0
 

@@ -1,4 +1,4 @@
-# A controller that is asked what became of a longrun that was on its way when a command was killed.
+# A controller that is asked what became of a service that was on its way when a command was killed.
 # program.sh reads this file.
 # shellcheck source=../trees.sh
 . "$here/trees.sh"
@@ -26,7 +26,7 @@ case $1 in
         fi
         if [ "$1" = up ]; then : > "$2.up"; else rm -f "$2.up"; fi
         ;;
-    state)
+    state | check)
         echo "$* $UNDORC_NAME $UNDORC_WAY $UNDORC_LIMIT" >> asked
         case $(cat mode) in
             says) [ -e "$2.up" ] || exit 3 ;;
@@ -123,19 +123,25 @@ rm web.up
 finds 'a restart given again' 'undorc: Recovered\n  lowered web\nraised web\nok\nlowered web\nok\nraised web\nok\n' \
     "$web" restart web -c ./ctl
 
-# Nothing is asked of a oneshot, with -x, without a controller, and of a log that ends in a part of a line.
-afresh says
-rm -f go
-"$program" change once -c ./ctl -b made -l live < /dev/null > /dev/null 2>&1 &
-killed=$!
-for turn in $(seq 250); do
-    ! grep -q '^take 1 once$' live.run 2> /dev/null || break
-    sleep 0.02
+# A oneshot is asked about by another word.
+once='check once once check 5000\n'
+for word in failed raised; do
+    afresh says
+    rm -f go
+    "$program" change once -c ./ctl -b made -l live < /dev/null > /dev/null 2>&1 &
+    killed=$!
+    for turn in $(seq 250); do
+        ! grep -q '^take 1 once$' live.run 2> /dev/null || break
+        sleep 0.02
+    done
+    kill -KILL "$killed"
+    wait "$killed" 2> /dev/null || true
+    : > go
+    [ "$word" = failed ] || : > once.up
+    finds "a oneshot that $word" "undorc: Recovered\n  $word once\nok\n" "$once" change -c ./ctl
 done
-kill -KILL "$killed"
-wait "$killed" 2> /dev/null || true
-: > go
-finds 'a oneshot' 'undorc: Recovered\n  failed once\nok\n' '' change -c ./ctl
+
+# Nothing is asked with -x, without a controller, and of a log that ends in a part of a line.
 for words in 'change -x none' 'seal' 'change' 'change -c ./ctl'; do
     afresh says
     held 1 web change web

@@ -1,4 +1,4 @@
-# `check`: whether longruns are where FILE says, by the answers of a controller. program.sh reads this file.
+# `check`: whether services are where FILE says, by the answers of a controller. program.sh reads this file.
 # shellcheck source=../trees.sh
 . "$here/trees.sh"
 mkdir checking
@@ -16,14 +16,14 @@ printf '%s\n' side once > tree/pair/contents
 rm tree/pair/dependencies
 "$program" compile tree > made
 
-# A longrun is where the file NAME.is says, by the name of a way; without it the controller does not know. It notes
+# A service is where the file NAME.is says, by the name of a way; without it the controller does not know. It notes
 # how it was called, and what was in its environment.
 cat > ctl <<'END_OF_CTL'
 #!/bin/sh
 echo "$* $UNDORC_NAME $UNDORC_WAY $UNDORC_LIMIT" >> asked
 case $1 in
     up | down) echo "$1" > "$2.is" ;;
-    state)
+    state | check)
         [ -e "$2.is" ] || exit 100
         case $(cat "$2.is") in
             up) exit 0 ;;
@@ -37,14 +37,17 @@ case $1 in
 esac
 END_OF_CTL
 chmod 755 ctl
-# are NAME=WHERE..: the longruns are there now
+# are NAME=WHERE..: the services are there now
 are() {
     rm -f ./*.is asked
     for said; do echo "${said#*=}" > "${said%%=*}.is"; done
 }
 # asked_of NAME..: the controller was asked once about each of these, in this order, and about nothing else
 asked_of() {
-    for name; do echo "state $name $name state 5000"; done > left.wanted
+    for name; do
+        case $name in once | new) word=check ;; *) word=state ;; esac
+        echo "$word $name $name $word 5000"
+    done > left.wanted
     cp asked left 2> /dev/null || : > left
     rm -f asked
     same "what was asked: $*"
@@ -54,7 +57,7 @@ asked_of() {
 missing='undorc: live does not exist: nothing is up\n'
 are base=down side=down web=down
 expect 0 '' "$missing" '' check -c ./ctl -b made -l live
-asked_of base side web
+asked_of base once side web
 are base=down side=up web=100
 expect 3 'side not live, but up\nweb not live, but unknown\n' "$missing" '' check -c ./ctl -b made -l live
 holds 'check makes no file' test ! -e live
@@ -64,7 +67,7 @@ are
 expect 0 'raised base once web\nok\n' '' '' change web -c ./ctl -b made -l live
 are base=up side=down web=up
 expect 0 '' '' '' check -c ./ctl -b made -l live
-asked_of base side web
+asked_of base once side web
 are base=down side=up web=down
 expect 3 'base live, but down\nside not live, but up\nweb live, but down\n' '' '' check -c ./ctl -b made -l live
 are base=up side=down web=down
@@ -82,17 +85,35 @@ expect 3 'side not live, but unknown\n' '' '' check -c ./ctl -b made -l live
 are base=dies side=down web=up
 expect 3 'base live, but unknown\n' '' '' check -c ./ctl -b made -l live
 
-# Names: of services and bundles, in any order and more than once. Nothing is asked of others, or of a oneshot.
+# A oneshot is asked about by another word. If it is not known, nothing is said of it.
+for answer in up:0 down:3 100:0 dies:0; do
+    are base=up side=down web=up "once=${answer%:*}"
+    line=
+    [ "$answer" != down:3 ] || line='once live, but down\n'
+    expect "${answer#*:}" "$line" '' '' check -c ./ctl -b made -l live
+    asked_of base once side web
+done
+expect 0 'lowered once web\nok\n' '' '' change -d once -c ./ctl -b made -l live
+for answer in up:3 down:0 4:0; do
+    are base=up side=down web=down "once=${answer%:*}"
+    line=
+    [ "$answer" != up:3 ] || line='once not live, but up\n'
+    expect "${answer#*:}" "$line" '' '' check -c ./ctl -b made -l live
+done
+are
+expect 0 'raised once web\nok\n' '' '' undo -c ./ctl -b made -l live
+
+# Names: of services and bundles, in any order and more than once. Nothing is asked of others.
 are base=down side=up web=down
 expect 3 'base live, but down\nweb live, but down\n' '' '' check web base web -c ./ctl -b made -l live
 asked_of base web
 expect 3 'side not live, but up\n' '' '' check pair -c ./ctl -b made -l live
-asked_of side
+asked_of once side
 expect 0 '' '' '' check once -c ./ctl -b made -l live
-asked_of
+asked_of once
 are base=down side=down web=up
 expect 0 '' '' '' check web pair -c ./ctl -b made -l live
-asked_of side web
+asked_of once side web
 expect 1 'refused Unknown nobody\n' '' '' check web nobody other -c ./ctl -b made -l live
 asked_of
 # A bundle of the session counts, and one that it has no more does not.
@@ -114,9 +135,9 @@ expect 3 'side not live, but unknown\n' '' '' check side -c '' -b made -l live
 expect 3 'side not live, but unknown\n' '' '' check side -c ' ' -b made -l live
 asked_of
 UNDORC_CONTROLLER=./ctl expect 0 '' '' '' check -b made -l live
-asked_of base side web
+asked_of base once side web
 UNDORC_CONTROLLER=./none expect 0 '' '' '' check -c ./ctl -b made -l live
-asked_of base side web
+asked_of base once side web
 UNDORC_CONTROLLER=./ctl UNDORC_DB=made UNDORC_LIVE=live expect 0 '' '' '' check web
 asked_of web
 expect 0 '' '' '' check web -c 'env CALLED=so ./ctl' -b made -l live
@@ -142,8 +163,8 @@ asked_of
 wrong check
 wrong check -b made
 wrong check -l live web
-wrong check -c ./ctl -b made -l live -W
-wrong check -c ./ctl -b made -l live -r
+wrong check -c ./ctl -b made -l live -n
+wrong check -c ./ctl -b made -l live -r -r
 wrong check -c ./ctl -b made -l live -x none
 wrong check -c ./ctl -c ./ctl -b made -l live
 wrong check 'web
@@ -157,7 +178,7 @@ expect 3 'side not live, but unknown\nweb live, but down\n' '' '' check -c ./ctl
 ended=$(date +%s)
 holds 'it is waited for five seconds' test $((ended - began)) -ge 5
 holds 'and then ended' sh -c '! grep -qs sleep "/proc/$(cat hung)/cmdline"'
-asked_of base side web
+asked_of base once side web
 
 # FILE and what is beside it stay as they are, and a lock that another program holds does not count.
 are base=up side=down web=up
@@ -204,9 +225,9 @@ expect 0 'raised more\nok\n' '' '' change more -c ./ctl -b next -l live
 are base=up more=down side=down web=up
 other='undorc: made is not the database of this session: undorc update -b made -l live -B made carries it over\n'
 expect 3 'more live, but down\n' '' '' check -c ./ctl -b next -l live
-asked_of base more side web
+asked_of base more new once side web
 expect 3 'more live, but down\n' "$other" '' check -c ./ctl -b made -l live
-asked_of base more side web
+asked_of base more new once side web
 expect 0 '' "$other" '' check side web -c ./ctl -b made -l live
 asked_of side web
 rm -f live

@@ -87,13 +87,17 @@ printf '%b' "${head}slow up failed:1 2026-01-01T00:00:00Z 4\n" > live.failed
 ends_with 0 change slow
 remembers 'the last success' ''
 
-# The file is its owner's alone.
+# Who may read FILE may read this file, too.
 rm works
 ends_with 0 change -d slow
-ends_with 2 change slow
-stat -c %a live.failed > left
-echo 600 > left.wanted
-same 'the rights of FILE.failed'
+for rights in 600 644; do
+    chmod "$rights" live
+    rm -f live.failed
+    ends_with 2 change slow
+    stat -c %a live live.failed > left
+    printf '%s\n' "$rights" "$rights" > left.wanted
+    same 'the rights of FILE.failed'
+done
 # The lines of a session, and the steps of a restart, are entered one after the other. With -x nothing is.
 rm -f live live.failed
 printf 'change flag\nchange fine\n' > in
@@ -130,6 +134,16 @@ ends_with 0 change -d fine
 { head -n 1 live.failed && tail -n +2 live.failed | sort; } > sorted
 mv sorted live.failed
 remembers 'a recovery' "${head}flag up failed:3 TIME 1\nslow up cut-short TIME 1\n"
+# How the transition of `slow` ended is not known, and status says so.
+status_shows 3 'flag failed up failed:3 TIME 1\nslow unknown up cut-short TIME 1\n' '' -f
+status_shows 3 'slow unknown up cut-short TIME 1\n' '' slow
+status_shows 3 'slow unknown up cut-short TIME 1\n' '' -f slow fine
+status_shows 0 'above down\nctl down\nfine down\nflag failed up failed:3 TIME 1\nlate down\nleft down\nslow unknown up cut-short TIME 1\n' ''
+# The word is that of this outcome alone.
+for outcome in cut-shorter ut-short cut short cut-shor; do
+    printf '%b' "${head}slow up $outcome 2026-01-01T00:00:00Z 1\n" > live.failed
+    status_shows 3 "slow failed up $outcome TIME 1\n" '' -f
+done
 
 # A text that is none of failures is left alone, told, and shows nothing.
 for text in 'something else\n' 'undorc-failed 2\n' "${head}flag up failed:3\n" "${head}a b c d e f\n"; do

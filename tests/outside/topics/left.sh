@@ -59,6 +59,19 @@ same 'the log names each program'
 pid=$(sed -n 's/^# process web \([0-9]*\) .*/\1/p' live.run)
 holds 'it is that of the script' kill -0 "$pid"
 
+# `cancel` names what is left of the killed command, and ends it with -k. Then no command is in progress.
+expect 0 '' 'undorc: web is under way\n' '' cancel -l live
+"$program" cancel -k -l live > out 2> err || echo "status $?" >> err
+sed 's/process [0-9]*/process N/' err | cat - out > left
+printf 'undorc: web: ends process N\n' > left.wanted
+same 'cancel -k ends what a killed command has left'
+within 100 sh -c "! kill -0 $pid 2> /dev/null"
+if kill -0 "$pid" 2> /dev/null; then echo 'it still runs' > left; else echo 'it has ended' > left; fi
+echo 'it has ended' > left.wanted
+same 'and that has ended'
+expect 1 '' 'undorc: no command is under way on live\n' '' cancel -l live
+cut_off web
+
 # The next command waits until it has ended, whatever that command is.
 lets_go &
 gives 'the same change' "undorc: web: waits for $left\nundorc: Recovered\n  raised base\n  failed web\nraised web\nok\n" \

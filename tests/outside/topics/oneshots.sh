@@ -228,7 +228,7 @@ UNDORC_DB=''
 expect 0 'live\nok\n' '' "$sample" live -l live
 unset UNDORC_DB
 # One that is no text is named, and only to commands that use it.
-for variable in UNDORC_DB UNDORC_LIVE UNDORC_RUNNER UNDORC_CONTROLLER; do
+for variable in UNDORC_DB UNDORC_LIVE UNDORC_RUNNER UNDORC_CONTROLLER UNDORC_OUTPUT; do
     export "$variable=$strange"
     expect 0 "$(grep -m 1 '^undorc ' "$top/NEWS")\n" '' '' version
     expect 0 'live\nok\n' '' '' live -b base -l live
@@ -305,14 +305,18 @@ zeros'
     umount shut
 fi
 
-# A command that is killed at any moment leaves its file as it was, or as it makes it.
+# A command that is killed at any moment leaves its file as it was, or as it makes it. The last moment comes after
+# three times as long as a whole command takes.
 cp live before
+begun=$(date +%s%N)
 "$program" change site -b base -x none -l live > out
+took=$((($(date +%s%N) - begun) / 1000))
 cp live after
 unlike=0 cut=0 whole=0
 for moment in $(seq 100); do
     cp before live
-    timeout -s KILL "$(printf '0.%05d' $((moment * moment)))" \
+    micros=$((moment * moment * took * 3 / 10000 + 1))
+    timeout -s KILL "$(printf '%d.%06d' $((micros / 1000000)) $((micros % 1000000)))" \
         "$program" change site -b base -x none -l live > out 2> err || true
     if cmp -s live before; then
         cut=$((cut + 1))

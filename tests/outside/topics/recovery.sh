@@ -333,6 +333,33 @@ wrong cancel -l live more
 # What was called off is not in the next command.
 expect 0 'raised top\nok\n' '' '' change top -b base -l live
 
+# With -k the script that is under way is ended, too; one that ignores TERM is killed after five seconds.
+begin_tree
+oneshot slow "trap '' TERM; echo begun > begun; until [ -e go ]; do sleep 0.02; done"
+oneshot top 'true' slow
+"$program" compile tree > deaf
+for base in base deaf; do
+    rm -f live ran go begun
+    echo 0 > status
+    "$program" change -w 1 top -b "$base" -l live < /dev/null > out 2> err &
+    called=$!
+    until_begun
+    seconds=$(date +%s)
+    "$program" cancel -k -l live 2> told || echo "status $?" >> told
+    seconds=$(($(date +%s) - seconds))
+    wait "$called" || echo $? > status
+    case $base$seconds in
+        base[0-3] | deaf[5-9]) ;;
+        *) echo "it took $seconds s" >> told ;;
+    esac
+    sed -e 's/ process [0-9]*$/ process N/' told >> err
+    # Of `deaf` nothing else comes up.
+    sed '/^raised a b$/d' out > out.less
+    mv out.less out
+    wants 'failed slow\nuntried top\nok\n' 'undorc: slow: ends process N\n'
+    judge "a change whose script is ended, $base" 2
+done
+
 # The status is 2, and the answer names what was not tried; TERM and INT do the same where they are blocked.
 for signal in cancel TERM INT HUP; do
     rm -f live ran go begun

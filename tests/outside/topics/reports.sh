@@ -138,7 +138,7 @@ reports 2 'failed bad\nok\n' 'up bad: failed 3\n' change bad -b scripts -l one
 reports 0 'raised good\nok\n' '' undo -b scripts -l one
 reports 0 'ok\n' '' add 'b"' good -b scripts -l one
 sed -e "s/ [0-9-]*T[0-9:]*Z uid $(id -u) / /" one.log > out
-printf '%s\n' '2 status 0: change -d good -b scripts -l one' '1 status 0: undo -b scripts -l one' \
+printf '%s\n' '2 status 0: change -d good -b scripts -l one' '  -good' '1 status 0: undo -b scripts -l one' '  +good' \
     '2 status 0: add "b\"" good -b scripts -l one' > out.wanted
 : > err
 : > err.wanted
@@ -148,6 +148,41 @@ judge 'the log of who did what' 0
 cat plain one.log > out.wanted
 "$program" journal -v -b scripts -l one > out
 judge 'the journal with its log' 0
+
+# `status -v` has since when each service is where it is, by that log. What it does not say, as before it began or of a
+# move that is not entered there, is not known.
+shows_times() {
+    "$program" status "$@" | sed -E 's/[0-9]{4}-[0-9]{2}-[0-9]{2}T[0-9]{2}:[0-9]{2}:[0-9]{2}Z/TIME/g' > out
+}
+shows_times -v -b scripts -l one
+grep -q '^good up TIME$' out && grep -q '^bad failed up failed:3 TIME [0-9]* -$' out && echo yes > out
+echo yes > out.wanted
+judge 'since when services are where they are' 0
+mv one.log aside
+reports 0 'lowered good\nok\n' '' change -d good -b scripts -l one
+mv aside one.log
+shows_times -v -b scripts -l one good
+echo 'good down -' > out.wanted
+judge 'a move that is not entered is not known' 0
+reports 0 'raised good\nok\n' '' undo -b scripts -l one
+shows_times -b scripts -l one good
+echo 'good up' > out.wanted
+judge 'status without times' 0
+
+# The file of UNDORC_LIVE has a log from its first command on, also with -q; another file has none.
+UNDORC_LIVE=three
+export UNDORC_LIVE
+reports 0 'raised good\nok\n' '' change -q good -b scripts
+reports 0 'lowered good\nok\n' '' stop good -b scripts -l three
+reports 0 'raised good\nok\n' '' change good -b scripts -l four
+unset UNDORC_LIVE
+sed -e "s/ [0-9-]*T[0-9:]*Z uid $(id -u) / /" three.log > out
+printf '%s\n' '1 status 0: change -q good -b scripts' '  +good' '2 status 0: stop good -b scripts -l three' '  -good' > out.wanted
+judge 'the log of the usual file' 0
+: > out.wanted
+ls four.log > out 2> told || true
+judge 'no log of another file' 0
+rm -f three* four*
 
 # Root is told of sources that are links out of their folder, and the file of -o may be read by nobody who may not
 # read the sources.

@@ -8,7 +8,10 @@ cp "$samples/sample.txt" base
 : > in
 
 # Where no command is under way FILE says it, and names in any order are answered in that of their bytes.
-expect 0 'db down\nlog down\nnet down\nroot down\nweb down\n' 'undorc: live does not exist: nothing is up\n' '' status -b base -l live
+expect 0 '' 'undorc: live does not exist: nothing is up\n' '' status -b base -l live
+expect 3 '' 'undorc: live does not exist: nothing is up\n' '' status -b base -l live net
+expect 0 '' 'undorc: live does not exist: nothing is up\n' '' status -f -b base -l live net
+expect 1 'refused Unknown nobody\n' 'undorc: live does not exist: nothing is up\n' '' status -b base -l live nobody
 "$program" change net -b base -l live -x none > setup
 expect 0 'db down\nlog down\nnet up\nroot up\nweb down\n' '' '' status -b base -l live
 expect 0 'net up\nroot up\n' '' '' status root net -b base -l live
@@ -60,7 +63,7 @@ cmp -s live was || echo 'the file differs' >> out
 : > err
 echo 0 > status
 judge 'status leaves all as it is' 0
-expect 0 'db down\nlog down\nnet down\nroot down\nweb down\n' 'undorc: missing does not exist: nothing is up\n' '' status -b base -l missing
+expect 0 '' 'undorc: missing does not exist: nothing is up\n' '' status -b base -l missing
 printf '%b' "$none" > other
 expect 1 '' 'undorc: OtherDb\n' '' status -b other -l live
 expect 1 '' 'undorc: Bad 0\n' '' status -b live -l base

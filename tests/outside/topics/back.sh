@@ -1,0 +1,157 @@
+# `undo --to`: back to a state of the journal, by one undo after the other. program.sh reads this file.
+# shellcheck source=../trees.sh
+. "$here/trees.sh"
+mkdir back
+cd back
+cp "$samples/sample.txt" base
+printf '%b' "$none" > other
+: > in
+# goes_back STATUS OUTPUT TOLD WORDS..: an undo to a state on this session
+goes_back() {
+    ends=$1 output=$2 fault=$3
+    shift 3
+    expect "$ends" "$output" "$fault" '' undo -b "${database:-base}" -l live "$@"
+}
+# journal_is ENTRIES: the journal says this
+journal_is() {
+    expect 0 "$1ok\n" '' '' journal -b base -l live
+}
+# leaves_alone STATUS OUTPUT TOLD WORDS..: the same, which leaves the text of the session as it was
+leaves_alone() {
+    cp live before
+    goes_back "$@"
+    wants '' ''
+    cmp live before > out 2>&1 || true
+    : > err
+    echo 0 > status
+    judge "undo $* leaves the session" 0
+}
+entries='0 +net +root\n1 +db\n2 -db -net\n3 +db +log +net +web\n'
+for names in net db '-d net' web; do
+    # Several words stand in one.
+    # shellcheck disable=SC2086
+    "$program" change $names -b base -l live -x none > setup
+done
+cp live four
+
+# The current state is one to go back to, and nothing moves. A later state and one that is not there are none.
+leaves_alone 0 'ok\n' '' --to 4 -x none
+leaves_alone 0 'ok\n' '' --to +4 -x none
+leaves_alone 1 '' 'undorc: NoState 5\n' --to 5 -x none
+leaves_alone 1 '' 'undorc: NoState 4294967295\n' --to 4294967295 -x none
+# One undo after the other, each with its answer.
+goes_back 0 'lowered db log net web\nok\n' '' --to 3 -x none
+journal_is "at 3 of 5\n$entries"
+leaves_alone 1 '' 'undorc: NoState 4\n' --to 4 -x none
+goes_back 0 'raised db net\nok\nlowered db\nok\n' '' --to=1 -x none -t 5000
+journal_is "at 1 of 5\n$entries"
+goes_back 0 'lowered net root\nok\n' '' --to 0 -x none -w 64
+journal_is "at 0 of 5\n$entries"
+# What was undone is there for redos, and the file is what so many undos make of it.
+cp live undone
+cp four live
+for turn in 1 2 3 4; do "$program" undo -b base -l live -x none > setup; done
+wants '' ''
+cmp live undone > out 2>&1 || true
+: > err
+echo 0 > status
+judge "as $turn undos" 0
+expect 0 'raised net root\nok\n' '' '' redo -b base -l live -x none
+
+# It stops at the first undo that is not all done, with what that leaves.
+cp four live
+goes_back 2 'lowered db log net web\nok\nraised net\nfailed db\nok\n' '' --to 0 -q -x up:db
+journal_is 'at 3 of 6\n0 +net +root\n1 +db\n2 -db\n3 -net\n4 +db +log +net +web\n'
+# A longrun without a controller: the first undo is refused, or the third one.
+cp four live
+leaves_alone 1 '' 'undorc: NoController db\n' --to 1
+"$program" undo -b base -l live -x none > setup
+"$program" change -D root -b base -l live -x none > setup
+"$program" change root -b base -l live -x none > setup
+goes_back 2 'lowered root\nok\nraised root\nok\n' 'undorc: NoController db\n' --to 2 -q
+
+# What is wrong with the texts is told first. No file: nothing is up, and there is one state.
+cp four live
+database=other leaves_alone 1 '' 'undorc: OtherDb\n' --to 4 -x none
+database=live leaves_alone 1 '' 'undorc: Bad 0\n' --to 4 -x none
+expect 1 '' 'undorc: Bad 0\n' '' undo --to 0 -b base -l base -x none
+rm live
+goes_back 0 'ok\n' '' --to 0 -x none
+goes_back 1 '' 'undorc: NoState 1\n' --to 1 -x none
+expect 111 '' 'undorc: Io\n' '' undo --to 0 -b base -l . -x none
+# Command lines.
+cp four live
+wrong undo --to -b base -l live
+wrong undo --to x -b base -l live
+wrong undo --to -1 -b base -l live
+wrong undo --to 4294967296 -b base -l live
+wrong undo --to 1 --to 1 -b base -l live
+wrong undo --to 1 -n -b base -l live
+wrong undo --to 1 -l live -x none
+wrong undo --to 1 -b base -x none
+wrong undo --to 1 1 -b base -l live
+wrong redo --to 1 -b base -l live
+wrong change --to 1 -b base -l live
+UNDORC_DB=base UNDORC_LIVE=live expect 1 '' 'undorc: NoState 9\n' '' undo --to 9
+UNDORC_DB=base UNDORC_LIVE=live wrong undo --to 1 -x none
+
+# In a history states of the present database alone count. An undo goes on over the first one after an update, which is
+# refused, and an undo to another state crosses no border.
+database=new
+rm -f live live.*
+sed 's/^true$/exit/' base > new
+"$program" change net -b base -l live -x none > setup
+"$program" update -b base -B new -R net -l live -x none > setup 2>&1
+"$program" change db -l live -x none > setup
+"$program" change log -l live -x none > setup
+expect 0 'at 3 of 4\n0 +net\n1 +db\n2 +log\nok\n' '' '' journal -l live
+leaves_alone 1 '' 'undorc: NoState 0\n' --to 0 -x none
+leaves_alone 0 'ok\n' '' --to 3 -x none
+leaves_alone 1 '' 'undorc: NoState 4\n' --to 4 -x none
+goes_back 0 'lowered log\nok\nlowered db\nok\n' '' --to 1 -x none
+leaves_alone 1 '' 'undorc: NoState 0\n' --to 0 -x none
+expect 0 'lowered net\nok\nraised net\nok\n' '' '' undo -l live -x none
+database=base
+goes_back 0 'lowered net root\nok\n' '' --to 0 -x none
+# Without a database before it, an undo stops on the first state.
+"$program" seal -b base -l live > setup
+"$program" change log -l live -x none > setup
+goes_back 0 'lowered log\nok\n' '' --to 0 -x none
+database=
+
+# A command that goes back has one line in FILE.log, with what moved in all.
+rm -f live live.*
+: > live.log
+for names in net db log; do "$program" change "$names" -b base -l live -x none > setup; done
+goes_back 0 'lowered log\nok\nlowered db\nok\n' '' --to 1 -x none
+wants '1 TIME status 0: undo -b base -l live --to 1 -x none\n  -db -log\n' ''
+tail -n 2 live.log | sed -E 's/ [0-9]{4}-.*Z uid [0-9]+ / TIME /' > out
+: > err
+echo 0 > status
+judge 'the log of a command that goes back' 0
+
+# With real scripts: a command that is killed in its second undo is entered by the next one.
+begin_tree
+oneshot one 'true'
+oneshot two 'true'
+down two ': > begun; until [ -e go ]; do sleep 0.02; done; : > ended'
+oneshot three 'true'
+"$program" compile tree > base
+rm -f live live.*
+for names in one two three; do "$program" change "$names" -b base -l live > setup; done
+"$program" undo --to 0 -b base -l live < /dev/null > /dev/null 2>&1 &
+killed=$!
+for turn in $(seq 250); do
+    [ ! -e begun ] || break
+    sleep 0.02
+done
+kill -KILL "$killed"
+wait "$killed" 2> /dev/null || true
+: > go
+for turn in $(seq 250); do
+    [ ! -e ended ] || break
+    sleep 0.02
+done
+sleep 0.2
+expect 0 'lowered two\nok\nlowered one\nok\n' 'undorc: Recovered\n' '' undo --to 0 -b base -l live
+cd ..
