@@ -195,10 +195,10 @@ renew_copy() {
     fi
 }
 
-# add_copies NAME..: puts those that the set has under the supervisor. Supervisors start side by side; ten
+# add_copies NAME..: puts those that the set has under the supervisor. Supervisors start side by side; twenty
 # seconds are enough for all. Fails if one has none; says which.
 add_copies() {
-    lacking='' tenths=100
+    lacking='' tenths=200
     for name; do
         if [ ! -d "$set/$name" ] || [ -d "$UNDORC_SCAN/$name" ]; then continue; fi
         add_copy "$name" || lacking=yes

@@ -96,14 +96,15 @@ clock() {
     now=${now%.*}${now#*.}
 }
 
-# within TENTHS COMMAND..: waits until the command succeeds, for so many tenths of a second; fails then
+# within TENTHS COMMAND..: waits until the command succeeds, for so many tenths of a second; fails then. The last
+# try comes after that time, so a machine that stood still for long is tried once more.
 within() {
     clock
     latest=$((now + $1 * 10))
     shift
     until "$@"; do
-        clock
         [ "$now" -lt "$latest" ] || return 1
+        clock
         sleep 0.1 &
         wait "$!" 2> /dev/null || true
     done
@@ -132,10 +133,11 @@ want_up() {
 
 # want_down DIR: makes the supervisor want it down, also one that comes later. While a daemon crashes again
 # and again, s6-svc returns before s6-supervise has read the command, and the daemon may start once more. So
-# this waits until the supervisor says so.
+# this waits until the supervisor says so. What sends a command and waits may give up before it has sent it, on a
+# machine that stands still, so the command is sent first.
 want_down() {
     : > "$1/down"
-    within 20 has_supervisor "$1" && bring_down "$1" 2000
+    within 20 has_supervisor "$1" && $lowers "$1" && bring_down "$1" 2000
     within 20 is_state "$1" down
 }
 

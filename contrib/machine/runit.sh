@@ -4,8 +4,8 @@
 # shellcheck source=processes.sh
 . "$here/processes.sh"
 
-# One of its tools, and the commands that want a daemon up and send it HUP
-tool=runsv raises='sv up' hangs_up='sv hup'
+# One of its tools, and the commands that want a daemon up or down and send it HUP
+tool=runsv raises='sv up' lowers='sv down' hangs_up='sv hup'
 
 # rescan: runsvdir looks for new service directories every five seconds, and can't be asked; fails if its
 # directory is not there
@@ -20,10 +20,11 @@ state_of() {
     # The state of a logger stands at the end.
     state=${state%%; *: log: *}
     case $state in
-        run:*', want down'*) echo 'up' ;;
+        # A finish that runs may still write the status of its run.
+        run:*', want down'* | finish:*', want down'*) echo 'up' ;;
         run:*) echo 'up wanted' ;;
-        down:*', want up'* | finish:*', want up'*) echo 'down wanted' ;;
-        down:* | finish:*) echo 'down' ;;
+        down:*', want up'* | finish:*) echo 'down wanted' ;;
+        down:*) echo 'down' ;;
         *) echo 'unsupervised' ;;
     esac
 }
@@ -64,7 +65,7 @@ has_started() {
 bring_up() {
     rm -f "$1/down" "$1/ended"
     sv up "$1" || give_up 'runsv is gone' 1
-    within 20 has_started "$1" || give_up 'not started' 1
+    within 50 has_started "$1" || give_up 'not started' 1
     started=$(pid_of "$1")
     if [ -x "$1/check" ]; then
         cd "$1" && rise "$2"

@@ -4,8 +4,8 @@
 # shellcheck source=processes.sh
 . "$here/processes.sh"
 
-# One of its tools, and the commands that want a daemon up and send it HUP
-tool=s6-svscanctl raises='s6-svc -U' hangs_up='s6-svc -h'
+# One of its tools, and the commands that want a daemon up or down and send it HUP
+tool=s6-svscanctl raises='s6-svc -U' lowers='s6-svc -D' hangs_up='s6-svc -h'
 
 # rescan: makes the scanner look for new service directories; fails if there is none
 rescan() {
@@ -43,19 +43,20 @@ is_ready() {
     attend s6-svwait -U -t 300 "$1" 2> /dev/null
 }
 
-# has_ended DIR: whether the daemon that was started is gone; sets `end` to its status
+# has_ended DIR: whether the daemon that was started is gone; sets `end` to its status, also where another one has
+# started since. If only its supervisor is gone, the last end is the one of `before`.
 has_ended() {
     end=
-    # Words of s6-svstat are separated by spaces.
-    # shellcheck disable=SC2046
-    set -- $(s6-svstat -o up,pid,exitcode,signum "$1")
-    [ "${1:-}.${2:-}" != "true.$started" ] || return 1
-    [ "${1:-}" != false ] || end=${3:-}
-    [ "$end" != -1 ] || end=$((128 + $4))
+    [ "$(s6-svstat -o up,pid "$1")" != "true $started" ] || return 1
+    last=$(s6-svdt -s -n 1 "$1")
+    [ "$last" != "${before-}" ] || return 0
+    end=${last##* }
+    case $last in *signal*) end=$((128 + end)) ;; esac
 }
 
 # bring_up DIR MS: s6-svc returns once the daemon has started, also where it has ended again
 bring_up() {
+    before=$(s6-svdt -s -n 1 "$1")
     attend s6-svc -wu -T "$2" -U "$1" || give_up 'not started' 1
     started=$(pid_of "$1")
     if [ -e "$1/notification-fd" ]; then

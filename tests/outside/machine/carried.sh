@@ -12,6 +12,9 @@ longrun asked 'exec s6-notifyoncheck -s 100 -w 200 -n 50 sleep 1000'
 mkdir asked/data
 printf '#!/bin/sh\ntest -e /run/ready\n' > asked/data/check
 chmod +x asked/data/check
+longrun tidy 'exec sleep 1000'
+printf '#!/bin/sh\nsleep 1; echo tidied > /run/tidied\n' > tidy/finish
+chmod +x tidy/finish
 longrun ends 'exit 7'
 longrun lame ''
 echo '#!/nowhere' > lame/run
@@ -39,6 +42,8 @@ step 'the signal of down-signal is sent' 'lowered int
 ok
 status 0' 'machine/manage change -d int'
 is 'it is that signal' INT "$(script 'cat /run/int')"
+step 'a longrun is down once its finish has ended' 'tidied
+status 0' 'machine/manage change tidy > /run/x; machine/manage change -d tidy > /run/x; cat /run/tidied'
 is 'a longrun that ends before it is ready fails at once' soon "$(took 'machine/manage change ends lame')"
 is 'its status is told' 'failed ends lame up ends: failed 7' \
     "$(script 'echo $(grep failed /run/x) $(grep -o "up ends: failed 7" /run/told)')"

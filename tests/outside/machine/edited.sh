@@ -73,7 +73,7 @@ done
 does "machine/init; $names" > "$room/after"
 is 'a killed init leaves nothing' '' "$(diff "$room/before" "$room/after")"
 
-# A longrun of the database without a source is named, and nothing waits ten seconds for it.
+# A longrun of the database without a source is named, and nothing waits twenty seconds for it.
 begun=$(date +%s)
 does 'undorc compile services > /run/x; machine/init' > "$room/said"
 usual=$(($(date +%s) - begun)) begun=$(date +%s)
