@@ -27,6 +27,11 @@ become_undorc() {
     exec env -i "$@"
 }
 
+# check [OPTION..] [NAME..]: asks the controller about these services, or all
+check() {
+    "$UNDORC_PROGRAM" check -c "$here/controller" "$@"
+}
+
 # longruns_of DB: prints the names of its longruns
 longruns_of() {
     "$UNDORC_PROGRAM" db -b "$1" list longruns

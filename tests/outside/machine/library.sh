@@ -24,6 +24,7 @@ disk() {
             mkdir -p "$place"
         done
         cp -a "$contrib/machine" "$contrib/orderly" "$contrib/lint" etc/undorc
+        cp -a "$tests/machine/says" etc/undorc/machine
         mkdir -p etc/undorc/services mnt/x usr/local/bin usr/local/sbin
         cp "$program" usr/local/bin/undorc
         for name in halt poweroff reboot; do
