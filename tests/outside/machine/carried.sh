@@ -8,7 +8,7 @@ while :; do sleep 0.1; done"
 echo SIGINT > int/down-signal
 longrun deaf "trap '' TERM; while :; do sleep 0.1; done"
 echo 1000 > deaf/timeout-kill
-longrun asked 'exec s6-notifyoncheck -s 100 -w 200 -n 50 sleep 1000'
+longrun asked 'exec s6-notifyoncheck -s 100 -w 200 -n 200 sleep 1000'
 mkdir asked/data
 printf '#!/bin/sh\ntest -e /run/ready\n' > asked/data/check
 chmod +x asked/data/check

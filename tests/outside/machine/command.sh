@@ -56,14 +56,14 @@ step 'version' 'status 0' 'undorc-machine version > /run/x && undorc version | c
 
 step 'check' 'status 0' 'undorc-machine check'
 is 'check of a daemon that was stopped by hand' 'd live, but down 3' "$(script "
-    case $supervisor in s6) s6-svc -wd -d /run/service/d ;; runit) sv down /run/service/d > /run/x ;; esac
+    case $supervisor in s6) s6-svc -wd -d /run/service/d ;; runit) sv -w 20 down /run/service/d > /run/x ;; esac
     echo \$(undorc-machine check || echo \$?)
-    case $supervisor in s6) s6-svc -wu -u /run/service/d ;; runit) sv up /run/service/d > /run/x ;; esac")"
+    case $supervisor in s6) s6-svc -wu -u /run/service/d ;; runit) sv -w 20 up /run/service/d > /run/x ;; esac")"
 
 is 'drift of a bundle' 'd live, but down d: its source has changed since init was called 1' "$(script "
-    case $supervisor in s6) s6-svc -wd -d /run/service/d ;; runit) sv down /run/service/d > /run/x ;; esac
+    case $supervisor in s6) s6-svc -wd -d /run/service/d ;; runit) sv -w 20 down /run/service/d > /run/x ;; esac
     echo \$(undorc-machine drift default || echo \$?)
-    case $supervisor in s6) s6-svc -wu -u /run/service/d ;; runit) sv up /run/service/d > /run/x ;; esac")"
+    case $supervisor in s6) s6-svc -wu -u /run/service/d ;; runit) sv -w 20 up /run/service/d > /run/x ;; esac")"
 step 'drift of a name that is unknown' 'status 1' 'undorc-machine drift nosuch'
 
 # A user who may not ask the supervisor.

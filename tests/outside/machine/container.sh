@@ -25,8 +25,7 @@ contain() {
         undorc compile -o db services
         exec machine/first/container "$@" > /var/keep/out 2> /var/keep/err' sh "$@"
     if [ -n "$signal" ]; then
-        within 30 'grep -qs -e "^raised" /var/keep/err && ! pgrep -f machine/boot' || true
-        sleep 1
+        within 30 'grep -qs -e "^raised" /var/keep/err && pgrep -f "^sleep (1000|0.2)"' || true
         kill "-$signal" "$first"
     fi
     wait_end
@@ -45,7 +44,7 @@ exec 5<&6
 is 'it reads what the container is given' words "$(cat "$keep/out")"
 contain 'no such command' 127 '' nosuch
 contain 'a command that is ended by TERM' 143 TERM sleep 1000
-contain 'a command that handles INT' 9 INT sh -c 'trap "exit 9" INT; while :; do sleep 0.1; done'
+contain 'a command that handles INT' 9 INT sh -c 'trap "exit 9" INT; while :; do sleep 0.2; done'
 contain 'no command, and TERM' 0 TERM
 contain 'a boot that fails in part' 111 '' -n partly sh -c 'echo ran'
 is 'no command is run after it' '' "$(cat "$keep/out")"
@@ -86,14 +85,15 @@ begin sh -c 'mount -t proc proc /proc
 within 30 'grep -qs -e "^raised" /var/keep/err' || true
 is 'the scanner is killed, and another one comes' yes "$(script "was=\$(pgrep -of '$scanner')
     kill -KILL \$was
-    timeout 10 sh -c 'until now=\$(pgrep -f \"$scanner\") && [ \"\$now\" != '\$was' ]; do sleep 0.1; done' && echo yes")"
+    timeout 30 sh -c 'until now=\$(pgrep -f \"$scanner\") && [ \"\$now\" != '\$was' ]; do sleep 0.1; done' && echo yes")"
 is 'an update removes a longrun' 'lowered gone
 ok
 ok
 status 0' "$(does 'rm -r services/gone; echo d > services/default/contents
     undorc compile -o new services; machine/manage update -B new')"
-is 'its supervisor has ended' '1 0' "$(script "sleep 1
-    echo \$(pgrep -fc '$supervises d\$') \$(pgrep -fc '$supervises gone\$')")"
+within 20 "! pgrep -f '$supervises gone\$'" || true
+is 'its supervisor has ended' '1 0' \
+    "$(script "echo \$(pgrep -fc '$supervises d\$') \$(pgrep -fc '$supervises gone\$')")"
 kill -TERM "$first"
 end_within 30
 is 'the container ends' 0 "$status"

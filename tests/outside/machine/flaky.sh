@@ -13,7 +13,7 @@ start_scanner c
 does 'undorc compile -o db services; machine/init' > "$room/said"
 for round in 1 2 3; do
     is "round $round: nothing starts after it has failed, and nothing is wanted up" \
-        'status 2, 0 raised, 0 starts, 0 up or wanted' "$(script "export UNDORC_WORKERS=40 UNDORC_SETTLE=3
+        'status 2, 0 raised, 0 starts, 0 up or wanted' "$(script "export UNDORC_WORKERS=40 UNDORC_SETTLE=8
             machine/manage change $names > /run/x 2>&1; ended=\$?
             raised=\$(sed -n 's/^raised//p' /run/x | wc -w)
             wanted=\$(machine/says | grep -vc ' down\$')

@@ -11,7 +11,8 @@ longrun there 'cd /mnt/x; exec sleep 1000' good
 longrun loner "trap '' TERM; while :; do sleep 1; done"
 oneshot bad true 'echo no >&2; exit 3' mnt
 oneshot hang true 'sleep 1000' mnt
-timeout_of 4000 deaf above good bad hang
+# Half of it is left for what a second pass does when it has killed a daemon.
+timeout_of 10000 deaf hang
 bundle default above good bad hang
 start_scanner f
 step 'boot' 'status 0' 'undorc compile -o db services; machine/boot > /run/x'
@@ -23,7 +24,7 @@ ok
 lowered bad deaf hang mnt
 ok
 status 2' machine/shutdown
-is 'it ends within 30 s' yes "$([ $(($(date +%s) - begun)) -gt 30 ] || echo yes)"
+is 'it ends within 60 s' yes "$([ $(($(date +%s) - begun)) -gt 60 ] || echo yes)"
 is 'it names what it forced' 'down bad: status 3
 down deaf: killed
 down hang: status 124
@@ -45,8 +46,11 @@ step 'a daemon that ignores TERM is started by hand' 'failed loner
 ok
 lowered loner
 ok
-status 2' "export UNDORC_SHUTDOWN=1000 UNDORC_USUAL=4000
-    case $supervisor in s6) s6-svc -u /run/service/loner ;; runit) sv up /run/service/loner ;; esac
+status 2' "export UNDORC_USUAL=10000 UNDORC_GRACE=1000
+    case $supervisor in
+        s6) s6-svc -wu -u /run/service/loner ;;
+        runit) sv -w 20 up /run/service/loner > /run/x ;;
+    esac
     machine/shutdown"
 is 'it is killed' 'down loner: killed
 shutdown: by force now: loner
@@ -58,7 +62,8 @@ step 'a shutdown of nothing' 'ok
 status 0' machine/shutdown
 step 'a session that another program holds' 'status 111' '
     flock /run/undorc/live.lock sleep 30 > /dev/null 2>&1 &
-    export UNDORC_SHUTDOWN=2000; sleep 0.3; machine/shutdown'
+    while flock -n /run/undorc/live.lock true; do sleep 0.1; done
+    UNDORC_SHUTDOWN=2000 machine/shutdown'
 is 'it says so' 'shutdown: another program holds /run/undorc/live; nothing was brought down' \
     "$(told)"
 is 'only its owner may hold the lock' 600 "$(script 'stat -c %a /run/undorc/live.lock')"

@@ -45,7 +45,7 @@ start() {
     machine=$!
     first=''
     turn=0
-    while [ -z "$first" ] && [ "$turn" -lt 50 ]; do
+    while [ -z "$first" ] && [ "$turn" -lt 200 ]; do
         sleep 0.1
         first=$(sed 's/ .*//' "/proc/$machine/task/$machine/children" 2> /dev/null) || return 0
         turn=$((turn + 1))
@@ -55,7 +55,7 @@ start() {
     until inside test -d /etc/undorc/services -a ! -d /old -a -d /proc/1 2> /dev/null; do
         sleep 0.1
         turn=$((turn + 1))
-        [ "$turn" -le 50 ] || return 0
+        [ "$turn" -le 200 ] || return 0
     done
 }
 

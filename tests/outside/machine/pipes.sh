@@ -54,7 +54,7 @@ is 'a reader goes on after all its writers have ended' yes "$(script "
 step 'the producers go down' 'lowered p1 p2
 ok
 status 0' 'machine/manage change -d p1 p2'
-script 'sleep 1'
+within 20 '[ $(sh lost | grep -c whole) -eq 2 ]' || true
 step 'their consumers go down' 'lowered log mid
 ok
 status 0' 'machine/manage change -d log'
@@ -65,14 +65,16 @@ p2 whole' "$(script 'sh lost')"
 # logger had read.
 step 'lines that both ends leave behind' '1
 status 0' "machine/manage change p1 > /run/x
-    $(move down log); sleep 0.5; cat /run/n.p1 > /run/n0
+    $(move down log); sleep 0.5; cat /run/n.p1 > /run/n0; sleep 0.5
     machine/manage change -d p1 > /run/x; machine/manage change -d log > /run/x
-    sleep 0.5; machine/manage change mid > /run/x; sleep 0.5
-    grep -c \"^p1 \$((\$(cat /run/n0) + 1))\\\$\" /run/logged/current"
+    sleep 0.5; machine/manage change mid > /run/x; next=\$((\$(cat /run/n0) + 1))
+    timeout 20 sh -c \"until grep -q '^p1 \$next\$' /run/logged/current; do sleep 0.1; done\"
+    grep -c \"^p1 \$next\\\$\" /run/logged/current"
 step 'a fifo whose name is gone is still that of its longruns' 'raised log mid p1
 ok
 all of it
 status 0' 'machine/manage change -d log > /run/x; rm /run/undorc/services/.set/.pipes/log
-    machine/manage change p1; sleep 1; machine/manage change -d p1 > /run/x; sleep 1
+    machine/manage change p1; sleep 1; machine/manage change -d p1 > /run/x
+    timeout 20 sh -c "until sh lost p1 | grep -q whole; do sleep 0.1; done"
     machine/manage change -d log > /run/x; sh lost p1 | grep -q whole && echo all of it'
 stop

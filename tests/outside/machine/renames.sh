@@ -94,7 +94,8 @@ is 'each fifo has one name' 'logger' "$(script 'ls /run/undorc/services/.set/.pi
 step 'drift finds nothing' 'status 0' machine/drift
 step 'the producer goes down' 'lowered p1
 ok
-status 0' 'machine/manage change -d p1; sleep 1'
+status 0' 'machine/manage change -d p1'
+within 20 'sh lost p1 | grep -q whole' || true
 is 'no line is lost' 'p1 whole' "$(script 'machine/manage change -d logger > /run/x 2>&1; sh lost p1')"
 step 'all is up again' 'raised logger p1
 ok

@@ -28,7 +28,7 @@ by_hand() {
     case $supervisor.$1 in
         s6.up) script "s6-svc -wu -u /run/service/$2" ;;
         s6.down) script "s6-svc -wd -d /run/service/$2" ;;
-        runit.*) script "sv $1 /run/service/$2 > /run/x" ;;
+        runit.*) script "sv -w 20 $1 /run/service/$2 > /run/x" ;;
     esac
 }
 by_hand down stopped

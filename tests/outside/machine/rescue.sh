@@ -29,6 +29,7 @@ boot: brings up rescue
 boot: status 2' "$(script 'grep ^boot: /run/undorc/boot.log')"
 within 10 'grep -q "boot: status 2" /run/undorc/caught/current' || true
 is 'so has the log that catches all' 4 "$(script 'grep -c "boot: " /run/undorc/caught/current')"
+within 10 '[ "$(grep -c "^boot: " /run/console)" -eq 4 ]' || true
 is 'so has the console' 4 "$(script 'grep -c "^boot: " /run/console')"
 is 'rescue is up' 'live d shell' "$(script 'machine/manage live | head -n 1')"
 is 'the supervisor agrees with the session' '' "$(inside sh -s < "$tests/machine/agree.sh")"

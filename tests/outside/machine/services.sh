@@ -33,11 +33,11 @@ bundle() {
     shift
     for member; do echo "$member"; done > "$contents"
 }
-# timeout_of MS NAME..: both ways
+# timeout_of MS NAME..: on the way down
 timeout_of() {
     ms=$1
     shift
-    for name; do echo "$ms" | tee "$name/timeout-up" > "$name/timeout-down"; done
+    for name; do echo "$ms" > "$name/timeout-down"; done
 }
 # pipe PRODUCER CONSUMER
 pipe() {

@@ -55,7 +55,7 @@ esac
 is 'nothing of them is in the catch-all log' 0 "$(script "grep -c works $caught")"
 step 'a daemon that crashes' 'failed flaky
 ok
-status 2' 'machine/manage change flaky'
+status 2' 'UNDORC_SETTLE=3 machine/manage change flaky'
 step 'a change' 'lowered nginx nginx-log php-fpm postgres
 ok
 status 0' 'machine/manage change -d postgres php-fpm nginx-log | sed "s/ postgres-log//"'

@@ -77,8 +77,8 @@ while [ "$round" -lt 30 ]; do
 done
 is 'the watch has seen the scripts' yes "$(script '[ "$(ls /run/watched | wc -l)" -gt 100 ] && echo yes')"
 is 'no two scripts of one service ran side by side' '' "$(script 'cat /run/overlaps 2> /dev/null')"
-script 'export UNDORC_NAME=two UNDORC_WAY=up; sh -c ". ./watch; sleep 60" & sleep 0.5
-    UNDORC_WAY=down sh -c ". ./watch"'
+script 'export UNDORC_NAME=two UNDORC_WAY=up; sh -c ". ./watch; sleep 60" &
+    timeout 20 sh -c "until grep -qs up /run/watched/two,*; do sleep 0.1; done"; UNDORC_WAY=down sh -c ". ./watch"'
 is 'two of one would be seen' 'two: down beside up' "$(script 'cat /run/overlaps')"
 is 'all is up again' 'status 0' "$(does 'machine/manage change default > /run/x')"
 is 'all agree with that' '' "$(differ)"

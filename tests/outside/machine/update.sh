@@ -68,7 +68,7 @@ step 'drift finds nothing again' 'status 0' machine/drift
 # A crash starts the copy that is there, and a change the one that is staged.
 script "sed -i s/v2/v3/ services/b/run; machine/init; rm /run/v.b
     kill -KILL $(daemon b)" 2> "$room/said"
-within 10 'test -e /run/v.b'
+within 10 'grep -q v /run/v.b'
 is 'a crash starts the old copy' v2 "$(script 'cat /run/v.b')"
 step 'a change starts the new one' 'v3
 status 0' 'machine/manage change -d b > /run/x; machine/manage change b > /run/x; cat /run/v.b'
@@ -105,7 +105,7 @@ stop
 disk v
 oneshot net true ''
 longrun low 'echo started > /run/low; exec sleep 1000'
-longrun slow "trap 'sleep 2; exit 0' TERM; while :; do sleep 0.1; done" low
+longrun slow "trap 'while [ -e /run/hold ]; do sleep 0.1; done; exit 0' TERM; while :; do sleep 0.1; done" low
 bundle default slow net
 start_scanner v
 step 'boot of what is updated' 'raised low net slow
@@ -117,12 +117,15 @@ needs() {
     script "printf '%s\\n' $* | grep . > services/low/dependencies
         undorc compile -o new services; rm -f /run/low"
 }
-# called_off SIGNAL TEXT: prints a script: an update is sent SIGNAL once TEXT succeeds
+# called_off SIGNAL TEXT: prints a script: an update is sent SIGNAL once TEXT succeeds. If there is a file
+# /run/hold, slow is on its way down until then.
 called_off() {
-    echo "env --default-signal=INT machine/manage update -B new > /run/said 2> /run/x &
+    echo "env --default-signal=INT UNDORC_SETTLE=4 machine/manage update -B new > /run/said 2> /run/x &
         manager=\$!
         timeout 20 sh -c 'until $2; do sleep 0.05; done'
         kill -$1 \$manager
+        sleep 1
+        rm -f /run/hold
         ended=0
         wait \$manager || ended=\$?
         cat /run/said
@@ -137,7 +140,7 @@ for signal in TERM INT HUP; do
 untried low
 ok
 new
-status 2' "$(called_off "$signal" 'machine/says | grep -q "^slow up$"')"
+status 2' ": > /run/hold; $(called_off "$signal" 'machine/says | grep -q "^slow up$"')"
     step "an undo after $signal brings back what went down" 'raised slow
 ok
 status 0' 'machine/manage undo'
