@@ -1,7 +1,7 @@
 -- The failures that are remembered beside the file of a session: their text, and what a run log
 -- makes of them.
-use Rattle.std.specs.Prelude.{◌++◌, ◌∷◌, ◌==◌, ◌&&◌, ℕ, Bool, List, [], Option, None, Some, codes}
-use Rattle.std.specs.Prelude.{◌≡◌, IfSome, filter, map, not, option_map, if◌then◌else◌}
+use Rattle.std.specs.Prelude.{◌++◌, ◌∷◌, ◌==◌, ◌&&◌, ◌||◌, ℕ, Bool, List, [], Option, None, Some}
+use Rattle.std.specs.Prelude.{◌≡◌, IfSome, codes, filter, map, not, option_map, if◌then◌else◌}
 use Rattle.std.specs.List.{flat_map, list_any, slice_split}
 use Rattle.std.specs.Option.{option_map_or}
 use Rattle.std.specs.Str.{bytes_eq}
@@ -185,10 +185,23 @@ abbrev pub failure_at : List Failure → (name word : List ℕ) → Option Failu
 failure_at failures name word =
     if bytes_eq word (codes "down") then failure_for failures name else None
 
+-- whether a word says that a service is moving
+abbrev pub is_moving : List ℕ → Bool
+is_moving word = bytes_eq word (codes "rising") || bytes_eq word (codes "sinking")
+
+-- the word that is shown for a service which this word says to be somewhere: where the command that
+-- was moving it was cut short, it is not known where it is
+abbrev pub said_word : (cut : Bool) → (word : List ℕ) → List ℕ
+said_word cut word = if cut && is_moving word then codes "unknown" else word
+
+-- whether a word says that a service has failed, or is unknown
+abbrev pub is_missed : List ℕ → Bool
+is_missed word = bytes_eq word (codes "failed") || bytes_eq word (codes "unknown")
+
 -- the line of a service that has no failure, or that is not down: where only failures are shown, it
--- is that of a service which failed in the command that is under way
+-- is that of a service which failed in the command that is under way, or is unknown
 abbrev pub plain_line : (only : Bool) → (name word : List ℕ) → List ℕ
-plain_line only name word = if only && not (bytes_eq word (codes "failed"))
+plain_line only name word = if only && not (is_missed word)
     then [] else name ++ 32 ∷ word ++ 10 ∷ []
 
 -- whether how a transition ended is not known, since its command was cut short
@@ -203,22 +216,24 @@ failed_word f = if is_cut_short f then codes " unknown " else codes " failed "
 abbrev pub failed_line : List ℕ → Failure → List ℕ
 failed_line name f = name ++ failed_word f ++ about f ++ 10 ∷ []
 
--- what is shown of a line of a name and a word
-abbrev pub shown_line : (only : Bool) → List Failure → List (List ℕ) → List ℕ
-shown_line only failures (name ∷ word ∷ []) = option_map_or (failed_line name)
-    (failure_at failures name word) (plain_line only name word)
-shown_line only failures other = []
+-- what is shown of a line of a name and a word, where the command that was moving services was cut
+-- short, or was not
+abbrev pub shown_line : (only cut : Bool) → List Failure → List (List ℕ) → List ℕ
+shown_line only cut failures (name ∷ word ∷ []) = option_map_or (failed_line name)
+    (failure_at failures name word) (plain_line only name (said_word cut word))
+shown_line only cut failures other = []
 
 -- what is shown of lines, behind what is shown so far
-abbrev pub shown_lines : (only : Bool) → List Failure → List ℕ → (lines : List (List ℕ)) → List ℕ
-shown_lines only failures before [] = before
-shown_lines only failures before (line ∷ more) =
-    shown_lines only failures (before ++ shown_line only failures (words_in line)) more
+abbrev pub shown_lines : (only cut : Bool) → List Failure → List ℕ → (lines : List (List ℕ))
+    → List ℕ
+shown_lines only cut failures before [] = before
+shown_lines only cut failures before (line ∷ more) =
+    shown_lines only cut failures (before ++ shown_line only cut failures (words_in line)) more
 
 -- what is shown of a text whose lines have a name and a word each
-abbrev pub shown_text : (only : Bool) → List Failure → List ℕ → List ℕ
-shown_text only failures text =
-    shown_lines only failures [] (slice_split (λ byte. byte == 10) text)
+abbrev pub shown_text : (only cut : Bool) → List Failure → List ℕ → List ℕ
+shown_text only cut failures text =
+    shown_lines only cut failures [] (slice_split (λ byte. byte == 10) text)
 
 -- what is known of a service after ends, where this was known before: what the last end of it says
 abbrev pub last_known : (name : List ℕ) → List End → (before : Option Failure) → Option Failure

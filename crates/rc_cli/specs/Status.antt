@@ -30,6 +30,7 @@ use Rattle.rc_cli.specs.declared.sessions.keeping.LiveFile.{LiveFile}
 use Rattle.rc_cli.specs.declared.sessions.keeping.LiveFile.TheVariants as file
 use Rattle.rc_cli.specs.declared.sessions.session_fault.SessionFault.{SessionFault}
 use Rattle.rc_cli.specs.declared.sessions.session_fault.SessionFault.TheVariants.{Failed}
+use Rattle.rc_cli.specs.declared.status.RunLog.{RunLog as ReadLog}
 use Rattle.rc_cli.specs.declared.status.Shown.{Shown}
 use Rattle.rc_cli.specs.declared.status.Shown.TheVariants as shown
 
@@ -130,11 +131,13 @@ ending_for [] = shown.Up
 ending_for (byte ∷ bytes) = shown.NotUp
 
 -- an answer as it is shown with the failures of a text: services that are down with their failures,
--- or nothing but failures; and one that is refused as it is
-abbrev pub IsShownAs : (only : Bool) → (failed : List ℕ) → (ending : Shown) → (text : List ℕ)
+-- and unknown those that a command was moving which was cut short; or nothing but failures; and one
+-- that is refused as it is
+abbrev pub IsShownAs : (only cut : Bool) → (failed : List ℕ) → (ending : Shown) → (text : List ℕ)
     → Shown → List ℕ → Type 0
-IsShownAs only failed shown.Refused text end seen = (end ≡ shown.Refused) × (seen ≡ text)
-IsShownAs only failed ending text end seen = (seen ≡ shown_text only (listed failed) text)
+IsShownAs only cut failed shown.Refused text end seen = (end ≡ shown.Refused) × (seen ≡ text)
+IsShownAs only cut failed ending text end seen =
+    (seen ≡ shown_text only cut (listed failed) text)
     × (end ≡ (if only then ending_for seen else ending))
 
 -- an answer of a session whose file does not exist: no line, since nothing is known of its
@@ -145,20 +148,29 @@ IsUnheld only ending text end seen =
     (seen ≡ []) × (end ≡ (if only then shown.Up else ending))
 
 -- an answer as it is shown of a file
-abbrev pub IsShownOf : LiveFile → (only : Bool) → (failed : List ℕ) → (ending : Shown)
+abbrev pub IsShownOf : LiveFile → (only cut : Bool) → (failed : List ℕ) → (ending : Shown)
     → (text : List ℕ) → Shown → List ℕ → Type 0
-IsShownOf file.Missing only failed ending text end seen = IsUnheld only ending text end seen
-IsShownOf (file.Text bytes) only failed ending text end seen =
-    IsShownAs only failed ending text end seen
-IsShownOf (file.Unread fault) only failed ending text end seen =
-    IsShownAs only failed ending text end seen
+IsShownOf file.Missing only cut failed ending text end seen = IsUnheld only ending text end seen
+IsShownOf (file.Text bytes) only cut failed ending text end seen =
+    IsShownAs only cut failed ending text end seen
+IsShownOf (file.Unread fault) only cut failed ending text end seen =
+    IsShownAs only cut failed ending text end seen
+
+-- what was read of a run log: its text, and whether its command was cut short
+pub record RunLog : Type 0 where
+  pub text : List ℕ
+  pub is_cut : Bool
+
+-- the same of a value of the program
+abbrev pub run_log_of : ReadLog → RunLog
+run_log_of log = record { text = log.text.now; is_cut = log.is_cut }
 
 -- the answer of `status` with the failures of a text
-abbrev pub AnswersShown : (base : List ℕ) → NamedAsk → LiveFile → (log failed : List ℕ) → Shown
-    → List ℕ → Type 0
+abbrev pub AnswersShown : (base : List ℕ) → NamedAsk → LiveFile → RunLog → (failed : List ℕ)
+    → Shown → List ℕ → Type 0
 AnswersShown base ask live log failed ending text = (end : Shown) × (lines : List ℕ)
-    × AnswersText base ask live log end lines
-    × IsShownOf live ask.failed failed end lines ending text
+    × AnswersText base ask live log.text end lines
+    × IsShownOf live ask.failed log.is_cut failed end lines ending text
 
 -- the lines of an answer: with the times by the log of commands, where each transition is reported
 abbrev pub with_times : Verbosity → (times : List ℕ) → Shown → (lines : List ℕ) → List ℕ
@@ -169,8 +181,8 @@ with_times Transitions times shown.Up lines = timed_text times lines
 with_times Transitions times shown.NotUp lines = timed_text times lines
 
 -- the answer of `status` with the failures of a text and the times of another
-abbrev pub AnswersTimed : (base : List ℕ) → NamedAsk → LiveFile → (log failed times : List ℕ)
-    → Shown → List ℕ → Type 0
+abbrev pub AnswersTimed : (base : List ℕ) → NamedAsk → LiveFile → RunLog
+    → (failed times : List ℕ) → Shown → List ℕ → Type 0
 AnswersTimed base ask live log failed times ending text = (lines : List ℕ)
     × AnswersShown base ask live log failed ending lines
     × (text ≡ with_times ask.session.verbosity times ending lines)
@@ -183,8 +195,9 @@ IsUnanswered base ask live fault = IsUnspelled (Some base) [] fault
     × IsFileFault (file_named ask.session.live live) d fault) ⊎ (fault ≡ Failed Memory))
 
 -- and what is written then: nothing, or where the writer has failed a prefix of the answer
-abbrev pub FailsStatus : (base : List ℕ) → NamedAsk → LiveFile → (log failed times : List ℕ)
-    → SessionFault → (writer : Type 0) → (written gained : Option (List ℕ)) → Type 0
+abbrev pub FailsStatus : (base : List ℕ) → NamedAsk → LiveFile → RunLog
+    → (failed times : List ℕ) → SessionFault → (writer : Type 0)
+    → (written gained : Option (List ℕ)) → Type 0
 FailsStatus base ask live log failed times fault writer written gained =
     (IsUnanswered base ask live fault × (gained ≡ written))
     ⊎ ((fault ≡ Failed Write) × writer × ((ending : Shown) × (text : List ℕ)
@@ -199,7 +212,7 @@ status_of shown.Refused = 1
 
 -- the answer was written whole, with the status of how it ends; or a fault is told. Of the failures
 -- that are remembered and of the log of commands these were read
-abbrev pub TellsStatus : (base : List ℕ) → NamedAsk → LiveFile → (log : List ℕ) → (status : ℕ)
+abbrev pub TellsStatus : (base : List ℕ) → NamedAsk → LiveFile → RunLog → (status : ℕ)
     → (writer : Type 0) → (written gained before after : Option (List ℕ)) → Type 0
 TellsStatus base ask live log status writer written gained before after =
     (failed : List ℕ) × (times : List ℕ) × (((ending : Shown) × (text : List ℕ)

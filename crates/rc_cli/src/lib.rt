@@ -28,7 +28,7 @@ pub use crate::queries::{db_run, plan_run, replay_run};
 pub use crate::remembered::remember;
 pub use crate::sealing::seal_as_asked;
 pub use crate::sessions::{LiveFile, Service, Store, TextKeeper, launch};
-pub use crate::status::status_as_asked;
+pub use crate::status::{RunLog, status_as_asked};
 pub use crate::straying::lower_strays;
 pub use crate::update::update_as_asked;
 pub use rc_compile::command::compile_run;

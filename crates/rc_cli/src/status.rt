@@ -13,14 +13,14 @@ ghost use Rattle.rc_cli.specs.Filing.{file_named};
 ghost use Rattle.rc_cli.specs.Status.{AnswersAt, AnswersShown, AnswersStatus, AnswersText};
 ghost use Rattle.rc_cli.specs.Status.{AnswersTimed};
 ghost use Rattle.rc_cli.specs.Status.{AreOfFile, IsShownAs, IsShownOf, IsTextOf, IsUnanswered};
-ghost use Rattle.rc_cli.specs.Status.{IsUnheld, IsUpAs};
+ghost use Rattle.rc_cli.specs.Status.{IsUnheld, IsUpAs, run_log_of};
 ghost use Rattle.rc_cli.specs.Status.{TellsStatus, ending_for, fails, line_of, lines_to};
 ghost use Rattle.rc_cli.specs.Status.{standing_after, standing_word, status_of, with_times};
 
 use crate::failures::listed;
 use crate::remembered::failed_text;
 use crate::sessions::{Devices, LiveFile, SessionFault, begin, spelled, tell_ended};
-use crate::shown_failures::shown_text;
+use crate::shown_failures::{Showing, shown_text};
 use crate::since::timed_text;
 use log::warn;
 use rc_args::{NamedRequest, SessionRequest, Verbosity};
@@ -60,6 +60,14 @@ struct StatusAnswer {
     text: Vec<u8>,
 }
 
+/// What was read of the run log beside the file of a session.
+#[derive(Clone, Copy)]
+pub struct RunLog<'a> {
+    pub text: &'a [u8],
+    /// Whether its command was cut short, if the log is of the text in the file.
+    pub is_cut: bool,
+}
+
 /// What was read beside the file of a session: the text of its failures, and that of the log of its
 /// commands.
 #[derive(Clone, Copy)]
@@ -70,8 +78,9 @@ struct Beside<'a> {
 
 /// Prints where services stand, and returns the exit status: 0; 3 if a named service is not up, or
 /// if only failures are wanted and there is one; 1 if a name is unknown or a text is refused; 111
-/// for a failure. A service that is down is shown with its failure, if it has one. If the file of
-/// the session does not exist, no service is shown.
+/// for a failure. A service that is down is shown with its failure, if it has one, and one that a
+/// command was moving which was cut short as unknown. If the file of the session does not exist, no
+/// service is shown.
 ///
 /// `live` is what stood in the file of the session, and `log` is what stood in its run log. The log
 /// was read first, so the log of a command that has ended since belongs to another text, and says
@@ -81,12 +90,12 @@ pub fn status_as_asked<R, W: Write, F: Write, S>(
     request: &NamedRequest<'_>,
     base: &[u8],
     live: LiveFile<'_>,
-    log: &[u8],
+    log: RunLog<'_>,
     devices: &mut Devices<R, W, F, S>,
 ) -> u8
     requires writer { HasFailed devices.old.outputs.writer → ⊥ }
-    ensures told { TellsStatus base.now (named_ask_of request.now) live.entry log.now result
-        (HasFailed devices.new.outputs.writer)
+    ensures told { TellsStatus base.now (named_ask_of request.now) live.entry
+        (run_log_of log.entry) result (HasFailed devices.new.outputs.writer)
         (W.contents (inner_of devices.old.outputs.writer))
         (W.contents (inner_of devices.new.outputs.writer))
         (F.contents devices.old.faults) (F.contents devices.new.faults) }
@@ -124,12 +133,12 @@ fn timed_answer<'a>(
     request: &NamedRequest<'_>,
     base: &[u8],
     live: LiveFile<'_>,
-    log: &[u8],
+    log: RunLog<'_>,
     beside: Beside<'_>,
 ) -> Result<StatusAnswer, SessionFault<'a>>
     ensures answer { IfOk result (λ answer. AnswersTimed base.now (named_ask_of request.now)
-        live.entry log.now beside.entry.failed.now beside.entry.times.now answer.ending
-        answer.text.items) }
+        live.entry (run_log_of log.entry) beside.entry.failed.now beside.entry.times.now
+        answer.ending answer.text.items) }
     ensures none { IfErr result (IsUnanswered base.now (named_ask_of request.now) live.entry) }
 {
     let answer = match shown_answer(alloc, request, base, live, log, beside.failed) {
@@ -197,18 +206,22 @@ fn shown_answer<'a>(
     request: &NamedRequest<'_>,
     base: &[u8],
     live: LiveFile<'_>,
-    log: &[u8],
+    log: RunLog<'_>,
     failed: &[u8],
 ) -> Result<StatusAnswer, SessionFault<'a>>
     ensures answer { IfOk result (λ answer. AnswersShown base.now (named_ask_of request.now)
-        live.entry log.now failed.now answer.ending answer.text.items) }
+        live.entry (run_log_of log.entry) failed.now answer.ending answer.text.items) }
     ensures none { IfErr result (IsUnanswered base.now (named_ask_of request.now) live.entry) }
 {
-    let answer = match text_answer(alloc, request, base, live, log) {
+    let answer = match text_answer(alloc, request, base, live, log.text) {
         Ok(answer) => answer,
         Err(fault) => return Err(fault),
     };
-    let shown = shown_of(alloc, &answer, live, failed, request.failed);
+    let showing = Showing {
+        only: request.failed,
+        is_cut: log.is_cut,
+    };
+    let shown = shown_of(alloc, &answer, live, failed, showing);
     drop(answer);
     match shown {
         Ok(answer) => Ok(answer),
@@ -222,14 +235,14 @@ fn shown_of(
     answer: &StatusAnswer,
     live: LiveFile<'_>,
     failed: &[u8],
-    only: bool,
+    showing: Showing,
 ) -> Result<StatusAnswer, NoMem>
-    ensures { IfOk result (λ shown. IsShownOf live.entry only failed.now answer.now.ending
-        answer.now.text.items shown.ending shown.text.items) }
+    ensures { IfOk result (λ shown. IsShownOf live.entry showing.only showing.is_cut failed.now
+        answer.now.ending answer.now.text.items shown.ending shown.text.items) }
 {
     match live {
-        LiveFile::Missing => unheld(alloc, answer, only),
-        LiveFile::Text(_) | LiveFile::Unread(_) => with_failures(alloc, answer, failed, only),
+        LiveFile::Missing => unheld(alloc, answer, showing.only),
+        LiveFile::Text(_) | LiveFile::Unread(_) => with_failures(alloc, answer, failed, showing),
     }
 }
 
@@ -251,16 +264,15 @@ fn unheld(alloc: Global, answer: &StatusAnswer, only: bool) -> Result<StatusAnsw
     })
 }
 
-// Returns an answer as it is shown with the failures of a text. If `only`, nothing but failures is
-// shown.
+// Returns an answer as it is shown with the failures of a text.
 fn with_failures(
     alloc: Global,
     answer: &StatusAnswer,
     failed: &[u8],
-    only: bool,
+    showing: Showing,
 ) -> Result<StatusAnswer, NoMem>
-    ensures { IfOk result (λ shown. IsShownAs only failed.now answer.now.ending
-        answer.now.text.items shown.ending shown.text.items) }
+    ensures { IfOk result (λ shown. IsShownAs showing.only showing.is_cut failed.now
+        answer.now.ending answer.now.text.items shown.ending shown.text.items) }
 {
     let (ending, text) = (answer.ending, &answer.text);
     if matches!(ending, Shown::Refused) {
@@ -268,10 +280,10 @@ fn with_failures(
         return Ok(StatusAnswer { ending, text });
     }
     let failures = listed(alloc, failed)?;
-    let shown = shown_text(alloc, text, &failures, only);
+    let shown = shown_text(alloc, text, &failures, showing);
     drop(failures);
     let text = shown?;
-    let ending = if only { ending_for(&text) } else { ending };
+    let ending = if showing.only { ending_for(&text) } else { ending };
     Ok(StatusAnswer { ending, text })
 }
 

@@ -10,7 +10,7 @@ use Rattle.rc_args.specs.declared.update_words.UpdateRequest.{UpdateRequest}
 use Rattle.rc_args.specs.declared.session_request.SessionRequest.{SessionRequest}
 use Rattle.rc_cli.specs.Checking.{TellsCheck}
 use Rattle.rc_cli.specs.Sealing.{SealsAs}
-use Rattle.rc_cli.specs.Status.{TellsStatus}
+use Rattle.rc_cli.specs.Status.{RunLog, TellsStatus}
 use Rattle.rc_cli.specs.UpdateEnds.{Updates}
 use Rattle.rc_cli.specs.Launching.{Launches}
 use Rattle.rc_cli.specs.Session.{Dealing, asked_with}
@@ -21,7 +21,7 @@ use Rattle.rc_launch.specs.Loading.{bytes_in, bytes_of}
 use Rattle.rc_args.specs.declared.session_command.SessionCommand.TheVariants as command
 use Rattle.rc_launch.specs.declared.texts.FileText.{FileText}
 
-module _ (log : List ℕ) (file : LiveFile) (status : ℕ) (deal : Dealing)
+module _ (log : RunLog) (file : LiveFile) (status : ℕ) (deal : Dealing)
     (reader writer keeper : Type 0) (before after : Option (List ℕ)) where
   -- one line
   pub line_carried : (request : OnceRequest) (base new : Option FileText) (service : Service)
@@ -89,8 +89,8 @@ module _ (log : List ℕ) (file : LiveFile) (status : ℕ) (deal : Dealing)
       deal.io.written deal.io.gained before after) is_base told
 
   -- a question
-  pub status_carried : (request : NamedRequest) (base new : Option FileText) (bytes logged : List ℕ)
-      → bytes ≡ bytes_of base → logged ≡ log
+  pub status_carried : (request : NamedRequest) (base new : Option FileText) (bytes : List ℕ)
+      (logged : RunLog) → bytes ≡ bytes_of base → logged ≡ log
       → TellsStatus bytes (named_ask_of request) file logged status writer deal.io.written
       deal.io.gained before after
       → CarriesOut (command.Status request) base new log file status deal reader writer keeper
@@ -98,5 +98,5 @@ module _ (log : List ℕ) (file : LiveFile) (status : ℕ) (deal : Dealing)
   status_carried request base new bytes logged is_base is_log told =
       subst (λ (text : List ℕ). TellsStatus text (named_ask_of request) file log status writer
       deal.io.written deal.io.gained before after) is_base
-      (subst (λ (text : List ℕ). TellsStatus bytes (named_ask_of request) file text status writer
+      (subst (λ (seen : RunLog). TellsStatus bytes (named_ask_of request) file seen status writer
       deal.io.written deal.io.gained before after) is_log told)

@@ -17,12 +17,12 @@ abbrev pub IsSeen : Note → Type 0
 IsSeen note.Nothing = Unit {0}
 IsSeen note.UnderWay = Unit {0}
 IsSeen note.Cut = Unit {0}
-IsSeen (note.Logged log) = ⊥
+IsSeen (note.Logged seen) = ⊥
 IsSeen (note.Locked recovery) = ⊥
 
 -- the log of this file was read
 abbrev pub IsLogOf : Bor (List ℕ) → Note → Type 0
-IsLogOf path (note.Logged log) = log.path ≡ path
+IsLogOf path (note.Logged seen) = seen.log.path ≡ path
 IsLogOf path other = ⊥
 
 -- what is found beside a file that is not locked: where it is shown where services stand its log

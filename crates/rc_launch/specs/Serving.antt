@@ -1,5 +1,5 @@
 -- What a command comes to on what was read for it.
-use Rattle.std.specs.Prelude.{◌≡◌, ℕ, List, [], Option}
+use Rattle.std.specs.Prelude.{◌≡◌, ℕ, List, [], Option, false}
 use Rattle.std.specs.Prelude.{option_map, IfOk, OnErr}
 use Rattle.std.specs.Prelude.{Result, map, string_bytes}
 use Rattle.rc_args.specs.NamedAsked.{named_ask_of}
@@ -9,7 +9,7 @@ use Rattle.rc_args.specs.declared.named_words.NamedRequest.{NamedRequest}
 use Rattle.rc_args.specs.declared.once_words.OnceRequest.{OnceRequest}
 use Rattle.rc_cli.specs.Checking.{TellsCheck}
 use Rattle.rc_cli.specs.Sealing.{SealsAs}
-use Rattle.rc_cli.specs.Status.{TellsStatus}
+use Rattle.rc_cli.specs.Status.{RunLog, TellsStatus}
 use Rattle.rc_cli.specs.UpdateEnds.{Updates}
 use Rattle.log.specs.declared.level.LevelFilter.{LevelFilter}
 use Rattle.rc_cli.specs.Deciding.{IsFound, level_by}
@@ -28,10 +28,10 @@ use Rattle.rc_launch.specs.declared.opened.Note.{Note}
 use Rattle.rc_launch.specs.declared.opened.Note.TheVariants as note
 use Rattle.rc_launch.specs.Loading.{bytes_in, bytes_of, session_in}
 
--- the bytes of the run log that was read
-abbrev pub logged_of : Note → List ℕ
-logged_of (note.Logged log) = log.bytes.items
-logged_of other = []
+-- what was read of the run log
+abbrev pub logged_of : Note → RunLog
+logged_of (note.Logged seen) = record { text = seen.log.bytes.items; is_cut = seen.is_cut }
+logged_of other = record { text = []; is_cut = false }
 
 -- what stood in a file as it was read
 abbrev pub IsReadAs : {E B : Type 0} → (B → List ℕ) → Result (Option B) E → LiveFile → Type 0
@@ -54,7 +54,7 @@ IsLogFor loaded level = level ≡ level_by (session_in loaded).verbosity
 
 -- a command was carried out on what was read, with this status: as a session of lines, or of one
 -- line, as an update, a restart, a seal, a status or a check
-abbrev pub CarriesOut : SessionCommand → (base new : Option FileText) → (log : List ℕ) → LiveFile
+abbrev pub CarriesOut : SessionCommand → (base new : Option FileText) → RunLog → LiveFile
     → (status : ℕ) → Dealing → (reader writer keeper : Type 0)
     → (before after : Option (List ℕ)) → Type 0
 CarriesOut (command.Lines request) base new log file status deal reader writer keeper before
@@ -86,7 +86,7 @@ CarriesOut (command.Check request) base new log file status deal reader writer k
     deal.io.gained before after
 
 -- the same of a command that was loaded
-abbrev pub Carries : Loaded → (log : List ℕ) → LiveFile → (status : ℕ) → Dealing
+abbrev pub Carries : Loaded → RunLog → LiveFile → (status : ℕ) → Dealing
     → (reader writer keeper : Type 0)
     → (before after : Option (List ℕ)) → Type 0
 Carries loaded log file status deal reader writer keeper before after =

@@ -35,7 +35,7 @@ pub use crate::carrying_out::carry_out;
 pub use crate::fault::OpenFault;
 pub use crate::held_files::HeldFiles;
 pub use crate::live_store::LiveStore;
-pub use crate::opened::{Note, Opened};
+pub use crate::opened::{Note, Opened, SeenLog};
 pub use crate::opening::open;
 pub use crate::recovered::{Came, Recovery};
 pub use crate::recovering::{Unrecovered, left_report, recover_by};

@@ -23,9 +23,18 @@ pub enum Note<'a> {
     Cut,
     /// The run log, which was read before the file. If a command ends in between, the file has a
     /// new text that the log does not fit.
-    Logged(LogText<'a>),
+    Logged(SeenLog<'a>),
     /// The file is locked, and this came of its run log.
     Locked(Recovery<'a>),
+}
+
+/// A run log that was read without its lock.
+#[derive(Drop)]
+pub struct SeenLog<'a> {
+    pub log: LogText<'a>,
+    /// Whether no command had the lock then. One that has left transitions under way in the log was
+    /// cut short.
+    pub is_cut: bool,
 }
 
 /// A command whose files are opened. Only opening them makes one, so the request, the databases and

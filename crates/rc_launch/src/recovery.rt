@@ -1,6 +1,6 @@
 //! Enters what a command that was cut short has moved.
 ghost use Rattle.std.specs.Prelude.{◌≡◌, ◌↔◌, IfOk, IsTrue};
-ghost use Rattle.rc_launch.specs.Beside.{IsEnteredFirst, IsLookedAt, IsSeen};
+ghost use Rattle.rc_launch.specs.Beside.{IsEnteredFirst, IsLogOf, IsLookedAt, IsSeen};
 ghost use Rattle.rc_launch.specs.Recovered.{ComesBy, ComesFor, IsCut, IsFirstStep, IsRecovered};
 ghost use Rattle.rc_launch.specs.Keeping.{finder_by};
 ghost use Rattle.rc_launch.specs.Recovered.{IsHeldFor, files_read};
@@ -11,7 +11,7 @@ use crate::fault::OpenFault;
 use crate::fronts::is_of;
 use crate::held_files::{Finder, HeldFiles};
 use crate::loading::{Loaded, bytes_of};
-use crate::opened::Note;
+use crate::opened::{Note, SeenLog};
 use crate::recovered::{Came, Recovery};
 use crate::recovering::{Unrecovered, recover_by};
 use crate::texts::{LiveText, LogText, ReadFiles};
@@ -35,12 +35,29 @@ pub(crate) fn look<'a>(
         return Ok(Note::Nothing);
     };
     match command {
-        SessionCommand::Status(_) => match LogText::read(rt, path) {
-            Ok(log) => Ok(Note::Logged(log)),
-            Err(fault) => Err(fault),
-        },
+        SessionCommand::Status(_) => seen(rt, path),
         _ => Ok(cut_note(rt, path)),
     }
+}
+
+// Reads the run log of a session for `status`. A command that begins or ends meanwhile is not cut
+// short.
+fn seen<'a>(rt: &'a HostRuntime, path: &'a str) -> Result<Note<'a>, OpenFault<'a>>
+    ensures { IfOk result (IsLogOf path.entry) }
+{
+    let was_free = is_free(rt, path);
+    match LogText::read(rt, path) {
+        Ok(log) => {
+            let is_cut = was_free && is_free(rt, path);
+            Ok(Note::Logged(SeenLog { log, is_cut }))
+        }
+        Err(fault) => Err(fault),
+    }
+}
+
+// Returns true if no program has the lock of a session. If that can't be asked, one may have it.
+fn is_free(rt: &HostRuntime, path: &str) -> bool {
+    matches!(live_lock::is_held(rt, path), Ok(false))
 }
 
 /// Enters what a command that was cut short has moved. The file of the session is locked.

@@ -4,6 +4,7 @@ ghost use Rattle.rc_streams.specs.Noting.{HasFailed, inner_of};
 ghost use Rattle.rc_args.specs.SessionAsked.{session_ask_of};
 ghost use Rattle.rc_cli.specs.Launching.{Launches};
 ghost use Rattle.rc_cli.specs.Session.{asked_with, dealt};
+ghost use Rattle.rc_cli.specs.Status.{run_log_of};
 ghost use Rattle.rc_cli.specs.Storing.{store_of};
 ghost use Rattle.rc_cli.specs.Straying.{LowersStrays};
 ghost use Rattle.log.specs.Handle.{max_level};
@@ -19,7 +20,8 @@ use crate::texts::FileText;
 use log::Logged;
 use rc_args::{SessionCommand, UpdateRequest};
 use rc_cli::sessions::{Devices, Host, LiveFile, Service, Store, launch, live_file, log_for};
-use rc_cli::{check_as_asked, lower_strays, seal_as_asked, status_as_asked, update_as_asked};
+use rc_cli::{RunLog, check_as_asked, lower_strays, seal_as_asked, status_as_asked};
+use rc_cli::update_as_asked;
 use rc_streams::messages::Messages;
 use rc_streams::output_folder::OutputFolder;
 use std::io::{Read, Write};
@@ -257,13 +259,19 @@ fn outputs_of<'h>(rt: &'h HostRuntime, opened: &'h Opened<'_>) -> Option<OutputF
     }
 }
 
-// Returns the bytes of the run log that was read.
-fn logged_in<'b>(note: &'b Note<'_>) -> &'b [u8]
-    ensures { result.now ≡ logged_of note.now }
+// Returns what was read of the run log.
+fn logged_in<'b>(note: &'b Note<'_>) -> RunLog<'b>
+    ensures { run_log_of result ≡ logged_of note.now }
 {
     match note {
-        Note::Logged(log) => log.bytes(),
-        _ => &[],
+        Note::Logged(seen) => RunLog {
+            text: seen.log.bytes(),
+            is_cut: seen.is_cut,
+        },
+        _ => RunLog {
+            text: &[],
+            is_cut: false,
+        },
     }
 }
 

@@ -1,10 +1,10 @@
 //! Messages about the lock and the run log beside the file of a session.
 use log::info;
 use rc_launch::frontend::{FileOptions, ForShell, tell_failure, tell_file, tell_no_history};
-use rc_launch::{FileText, LiveText, LogText, Note, OpenFault, Opened, left_report};
+use rc_launch::{FileText, LiveText, Note, OpenFault, Opened, SeenLog, left_report};
 use rc_streams::inherited::Unfit;
 use rc_streams::messages::{HINT, MESSAGE, Messages};
-use rc_streams::{live_lock, run_file};
+use rc_streams::run_file;
 use std::io;
 
 /// Prints what was found beside the file of the session of a command.
@@ -13,8 +13,8 @@ pub fn tell_note(rt: &HostRuntime, opened: &Opened<'_>) {
         Note::Nothing => {}
         Note::UnderWay => info!(Messages(rt); target: MESSAGE, "a command is under way"),
         Note::Cut => tell_cut(rt),
-        Note::Logged(log) => {
-            if is_cut(rt, opened, log) {
+        Note::Logged(seen) => {
+            if is_cut(opened, seen) {
                 tell_cut(rt);
             }
         }
@@ -33,15 +33,12 @@ fn tell_cut(rt: &HostRuntime) {
         "a command was cut short: the next one enters what it has moved");
 }
 
-/// Returns true if a run log is that of a command on the text of the session, and no command is
-/// under way.
-fn is_cut(rt: &HostRuntime, opened: &Opened<'_>, log: &LogText<'_>) -> bool {
+/// Returns true if a run log is that of a command on the text of the session which was cut short.
+fn is_cut(opened: &Opened<'_>, seen: &SeenLog<'_>) -> bool {
     match opened.live().bytes() {
         Some(text) => {
-            let bytes = log.bytes();
-            bytes.len() > text.len()
-                && bytes.starts_with(text)
-                && matches!(live_lock::is_held(rt, log.path()), Ok(false))
+            let bytes = seen.log.bytes();
+            seen.is_cut && bytes.len() > text.len() && bytes.starts_with(text)
         }
         None => false,
     }

@@ -127,7 +127,8 @@ status_shows 3 'flag failed\nslow rising\n' '' slow flag
 kill -KILL "$killed"
 wait "$killed" 2> /dev/null || true
 cut='undorc: a command was cut short: the next one enters what it has moved\n'
-status_shows 3 'flag failed\n' "$cut" -f
+status_shows 3 'flag failed\nslow unknown\n' "$cut" slow flag
+status_shows 3 'flag failed\nslow unknown\n' "$cut" -f
 : > go
 ends_with 0 change -d fine
 # Either of the two may have begun first.

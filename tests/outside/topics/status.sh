@@ -26,23 +26,26 @@ logged() {
     cp live live.run
     printf '%b' "$1" >> live.run
 }
-# No command is under way, and status says so.
+# No command is under way, and status says so. It does not know where the one that was cut short has left what it
+# was moving.
 cut='undorc: a command was cut short: the next one enters what it has moved\n'
 logged '-t 1 -u change web\ntake 1 db\ntake 2 log\ndone 2 log ok\ndone 1 db failed 3\n'
 expect 0 'db failed\nlog up\nnet up\nroot up\nweb down\n' "$cut" '' status -b base -l live
 expect 3 'db failed\n' "$cut" '' status db -b base -l live
 expect 0 'log up\n' "$cut" '' status log -b base -l live
 logged '-t 1 -u change web\ntake 1 db\ntake 2 log\n'
-expect 0 'db rising\nlog rising\nnet up\nroot up\nweb down\n' "$cut" '' status -b base -l live
+expect 0 'db unknown\nlog unknown\nnet up\nroot up\nweb down\n' "$cut" '' status -b base -l live
+expect 3 'db unknown\nlog unknown\n' "$cut" '' status -f -b base -l live
+expect 3 'log unknown -\n' "$cut" '' status -v log -b base -l live
 logged '-t 1 -D change root\ntake 1 net\n'
-expect 3 'net sinking\n' "$cut" '' status net -b base -l live
+expect 3 'net unknown\n' "$cut" '' status net -b base -l live
 logged '-t 1 -D change root\ntake 1 net\ndone 1 net ok\n'
 expect 3 'net down\nroot up\n' "$cut" '' status net root -b base -l live
 logged '-t 1 -D change root\ntake 1 net\ndone 1 net timeout\n'
 expect 3 'net failed\n' "$cut" '' status net -b base -l live
 # A line that was not written whole says nothing; nor does a log of another text, or one that fits no command.
 logged '-t 1 -D change root\ntake 1 net\ndone 1 net o'
-expect 3 'net sinking\n' "$cut" '' status net -b base -l live
+expect 3 'net unknown\n' "$cut" '' status net -b base -l live
 logged 'take 1 net\n'
 expect 0 'net up\n' "$cut" '' status net -b base -l live
 cp base live.run

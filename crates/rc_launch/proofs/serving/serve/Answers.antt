@@ -1,4 +1,5 @@
 use Rattle.rc_cli.specs.Session.{dealt}
+use Rattle.rc_cli.specs.Status.{run_log_of}
 use Rattle.rc_cli.specs.Storing.{store_of}
 use Rattle.rc_streams.specs.Noting.{HasFailed}
 use Rattle.rc_launch.specs.Serving.{logged_of}
@@ -35,7 +36,8 @@ returns-in-Status g c =
           is.reader was.outputs is.outputs) (HasFailed is.reader) (HasFailed is.outputs.writer)
           (g.S.Store.failed (store_of is.outputs.keeper)) (g.F.Write.contents was.faults)
           (g.F.Write.contents is.faults) c.in-Status.request loaded.base loaded.new
-          c.bytes_of-in-Status.result.now c.logged_in-log.result.now c.bytes_of-in-Status.ensures
+          c.bytes_of-in-Status.result.now (run_log_of c.logged_in-log.result)
+          c.bytes_of-in-Status.ensures
           c.logged_in-log.ensures c.status_as_asked-code.ensures.told),
     )
 
