@@ -3,6 +3,7 @@ ghost use Rattle.rc_streams.specs.Noting.{HasFailed};
 
 use crate::history;
 use crate::notes::{tell_left, tell_note, tell_opening, tell_session};
+use crate::printed::Printed;
 use crate::restarts::tell_down;
 use crate::tails::show_tails;
 use crate::updates::tell_why;
@@ -58,8 +59,11 @@ fn carry_out_on<'x, T: Threads + Wait + Sync>(
         return tell_failure(rt, "Memory");
     };
     let mut typed = Typed::new(rt, reads(opened));
-    let mut answers = Answers::new(rt, base_in(opened), files);
-    let mut devices = devices_of(rt, &mut typed, &mut answers, store);
+    let mut printed = Printed {
+        answers: Answers::new(rt, base_in(opened), files),
+        held: held_for(rt, opened),
+    };
+    let mut devices = devices_of(rt, &mut typed, &mut printed, store);
     let status = rc_launch::carry_out(rt, threads, opened, &mut devices).code();
     close(rt, opened);
     let Devices {
@@ -69,8 +73,9 @@ fn carry_out_on<'x, T: Threads + Wait + Sync>(
     } = devices;
     let store = store_in(outputs);
     enter(rt, opened, status);
+    show_journal(rt, opened, &printed);
     show_tails(rt, opened, status);
-    tell_hints(rt, opened, typed.kept(), &answers, store.error(), &told);
+    tell_hints(rt, opened, typed.kept(), &printed.answers, store.error(), &told);
     tell_workers(rt, threads, &told);
     tell_why(rt, opened, status);
     tell_down(rt, opened, files, status);
@@ -91,16 +96,27 @@ fn close(rt: &HostRuntime, opened: &Opened<'_>) {
     }
 }
 
-/// Enters a command that altered the file of the session into its log, or shows that log with the
-/// journal.
+/// Enters a command that altered the file of the session into its log.
 fn enter(rt: &HostRuntime, opened: &Opened<'_>, status: u8) {
-    let Some(path) = opened.session().live else {
-        return;
-    };
-    if opened.moves() {
+    if let (true, Some(path)) = (opened.moves(), opened.session().live) {
         history::enter(rt, path, opened.live().bytes(), status);
-    } else if opened.session().verbosity == Verbosity::Transitions && is_journal(opened.command()) {
-        let _ = history::show(rt, path);
+    }
+}
+
+/// Returns where a journal is held to which the commands are added that made its entries, if this
+/// is asked for.
+fn held_for(rt: &HostRuntime, opened: &Opened<'_>) -> Option<Vec<u8>> {
+    if opened.session().verbosity == Verbosity::Transitions && is_journal(opened.command()) {
+        Some(Vec::new(rt.alloc()))
+    } else {
+        None
+    }
+}
+
+/// Prints a journal that is held, with the commands that made its entries.
+fn show_journal(rt: &HostRuntime, opened: &Opened<'_>, printed: &Printed<'_>) {
+    if let Some(journal) = &printed.held {
+        let _ = history::show(rt, opened.session().live, journal);
     }
 }
 

@@ -1,6 +1,7 @@
 //! The file of who did what and when: `FILE.log` beside `FILE`, if it exists or FILE is that of the
 //! environment. Each command that altered the session appends a line, while it has the lock.
 
+use crate::makers::Makers;
 use crate::own_name::words;
 use jiff::Timestamp;
 use log::warn;
@@ -10,7 +11,7 @@ use rc_streams::command_log;
 use rc_streams::messages::{MESSAGE, Messages};
 use std::env;
 use std::fs::File;
-use std::io::{self, Write};
+use std::io::{self, ErrorKind, Write};
 
 /// Appends a line for this command, which ends with this status, if the text of the session has
 /// changed and there is to be a log. Warns if the line can't be written.
@@ -211,12 +212,33 @@ fn current_of(text: &[u8]) -> usize {
     number
 }
 
-/// Prints the log, if it exists.
-pub fn show(rt: &HostRuntime, path: &str) -> io::Result<()> {
-    let Some(text) = command_log::read(rt, path)? else {
-        return Ok(());
+/// Prints a journal, with the commands that made its entries by the log. Warns if that can't be
+/// read.
+pub fn show(rt: &HostRuntime, path: Option<&str>, journal: &[u8]) -> io::Result<()> {
+    let log = log_of(rt, path);
+    let shown = match Makers::read(rt.alloc(), &log) {
+        Ok(makers) => {
+            let shown = makers.print(rt, journal);
+            drop(makers);
+            shown
+        }
+        Err(_) => Err(io::Error::from(ErrorKind::OutOfMemory)),
     };
-    let shown = rt.stdout().write_all(&text);
-    drop(text);
+    drop(log);
     shown
+}
+
+/// Returns the text of the log of a file, or no bytes if there is none. Warns if it can't be read.
+fn log_of(rt: &HostRuntime, path: Option<&str>) -> Vec<u8> {
+    let Some(path) = path else {
+        return Vec::new(rt.alloc());
+    };
+    match command_log::read(rt, path) {
+        Ok(Some(text)) => text,
+        Ok(None) => Vec::new(rt.alloc()),
+        Err(error) => {
+            warn!(Messages(rt); target: MESSAGE, "{path}.log: {error}: it is left out");
+            Vec::new(rt.alloc())
+        }
+    }
 }
