@@ -52,12 +52,8 @@ impl<'a> Makers<'a> {
                     about,
                     moves: &[],
                 });
-            } else if let Some(command) = last {
-                last = Some(Logged {
-                    state: command.state,
-                    about: command.about,
-                    moves: line,
-                });
+            } else if line.starts_with(b" ") {
+                last = with_moves(last, line);
             }
         }
         makers.enter_last(last)?;
@@ -149,6 +145,20 @@ impl<'a> Makers<'a> {
             _ => None,
         }
     }
+}
+
+/// Returns a command, if there is one, with the line of what it moved.
+fn with_moves<'a>(command: Option<Logged<'a>>, moves: &'a [u8]) -> Option<Logged<'a>> {
+    let Logged {
+        state,
+        about,
+        moves: _,
+    } = command?;
+    Some(Logged {
+        state,
+        about,
+        moves,
+    })
 }
 
 /// Returns the number at the front of a line, and what follows the blank behind it.

@@ -24,8 +24,8 @@ done)"
 step 'what it does not know is refused' 'status 100' 'undorc-machine raise d'
 is 'it says so' 'undorc-machine: no such command: raise; -h lists them' "$(told)"
 step 'no command is refused' 'status 100' undorc-machine
-step 'words are passed on to journal, which has the boot, too' 'at 1 of 2
-2
+step 'words are passed on to journal' 'at 1 of 2
+1
 status 0' 'undorc-machine change -d o > /run/x; undorc-machine journal -v > /run/x
     head -n 1 /run/x; grep -c "status 0: change" /run/x'
 step 'an undo' 'raised o

@@ -127,7 +127,7 @@ if may_be_nobody 'a directory that may not be written'; then
     program=$owned
 fi
 
-# The log of a file has a line for each command that altered it, where it is there; `journal -v` prints it.
+# The log of a file has a line for each command that altered it, where it is there.
 rm -f one
 reports 0 'raised good\nok\n' '' change good -b scripts -l one
 : > one.log
@@ -144,10 +144,65 @@ printf '%s\n' '2 status 0: change -d good -b scripts -l one' '  -good' '1 status
 : > err.wanted
 echo 0 > status
 judge 'the log of who did what' 0
-"$program" journal -b scripts -l one > plain
-cat plain one.log > out.wanted
-"$program" journal -v -b scripts -l one > out
-judge 'the journal with its log' 0
+# The journal with the commands that made its entries, as far as the log tells. The user and the time are left out.
+journal_shows() {
+    "$program" journal -v -b scripts -l "$2" | sed -e "s/ [0-9-]*T[0-9:]*Z uid $(id -u) / /" \
+        -e "s/ -b scripts -l $2$//" > out
+    printf '%b' "$3" > out.wanted
+    judge "$1" 0
+}
+quiet() {
+    "$program" "$@" -b scripts -l two > setup 2>&1 || true
+}
+journal_shows 'the log of a file is shorter than its journal' one \
+    'at 2 of 3\n0 +good\n1 b":none>[good]\n  status 0: add "b\\"" good\nok\n'
+journal_shows 'a journal without a log' none 'at 0 of 1\nok\n'
+: > two.log
+for words in 'change good' 'stop good' 'start good' undo undo; do
+    # The words are separated by spaces.
+    # shellcheck disable=SC2086
+    quiet $words
+done
+made='0 +good\n  status 0: change good\n'
+journal_shows 'what is undone is still an entry' two \
+    "at 1 of 4\n${made}1 -good\n  status 0: stop good\n2 +good\n  status 0: start good\nok\n"
+quiet change -d good
+journal_shows 'a change replaces what is undone' two "at 2 of 3\n${made}1 -good\n  status 0: change -d good\nok\n"
+quiet start good
+quiet restart good
+quiet change bad good
+quiet add some good
+quiet undo
+quiet redo
+made="${made}1 -good\n  status 0: change -d good\n2 +good\n  status 0: start good\n"
+edited='3 some:none>[good]\n  status 0: add some good\n'
+journal_shows 'a restart, and what moves nothing, are no entries' two "at 4 of 5\n$made${edited}ok\n"
+cp two.log aside
+sed -i '/^3 .*start good/,+1d' two.log
+journal_shows 'lines are missing' two "at 4 of 5\n0 +good\n1 -good\n2 +good\n${edited}ok\n"
+sed -e 's/+good/+bad/' aside > two.log
+journal_shows 'another log' two \
+    "at 4 of 5\n0 +good\n1 -good\n  status 0: change -d good\n2 +good\n${edited}ok\n"
+printf '5 x\n\n70000 y z: change a\n1  +good\n\033[m\n4 t\033[m uid 0 status 0: add x\n' > two.log
+journal_shows 'a log of other words' two \
+    'at 4 of 5\n0 +good\n1 -good\n2 +good\n3 some:none>[good]\n  t\\u{1b}[m uid 0 status 0: add x\nok\n'
+cp aside two.log
+echo '-d change good' > in
+"$program" session -b scripts -l two < in > setup
+journal_shows 'a session may have made more than one' two \
+    'at 5 of 6\n0 +good\n1 -good\n2 +good\n3 some:none>[good]\n4 -good\nok\n'
+: > in
+quiet seal
+quiet start good
+printf 'undorc-live 2\nservices bad good guard\nbound 3\nnow\nend\n' > three
+: > three.log
+for word in change stop start stop; do
+    "$program" "$word" good -b scripts -l three > setup
+done
+journal_shows 'a full journal drops its first entry' three \
+    'at 2 of 3\n0 +good\n  status 0: start good\n1 -good\n  status 0: stop good\nok\n'
+rm three*
+journal_shows 'a seal begins the journal anew' two 'at 1 of 2\n0 +good\n  status 0: start good\nok\n'
 
 # `status -v` has since when each service is where it is, by that log. What it does not say, as before it began or of a
 # move that is not entered there, is not known.
