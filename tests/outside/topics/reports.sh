@@ -146,9 +146,9 @@ echo 0 > status
 judge 'the log of who did what' 0
 # The journal with the commands that made its entries, as far as the log tells. The user and the time are left out.
 journal_shows() {
-    "$program" journal -v -b scripts -l "$2" | sed -e "s/ [0-9-]*T[0-9:]*Z uid $(id -u) / /" \
+    "$program" journal -v -b scripts -l "$2" 2> err | sed -e "s/ [0-9-]*T[0-9:]*Z uid $(id -u) / /" \
         -e "s/ -b scripts -l $2$//" > out
-    printf '%b' "$3" > out.wanted
+    wants "$3" "${4:-}"
     judge "$1" 0
 }
 quiet() {
@@ -156,7 +156,10 @@ quiet() {
 }
 journal_shows 'the log of a file is shorter than its journal' one \
     'at 2 of 3\n0 +good\n1 b":none>[good]\n  status 0: add "b\\"" good\nok\n'
-journal_shows 'a journal without a log' none 'at 0 of 1\nok\n'
+journal_shows 'a journal without a log' none 'at 0 of 1\nok\n' 'undorc: none does not exist: nothing is up\n'
+mkdir none.log
+journal_shows 'a log that can not be read' none 'at 0 of 1\nok\n' \
+    'undorc: none does not exist: nothing is up\nundorc: none.log: Is a directory (os error 21): it is left out\n'
 : > two.log
 for words in 'change good' 'stop good' 'start good' undo undo; do
     # The words are separated by spaces.
