@@ -283,7 +283,11 @@ fn with_failures(
     let shown = shown_text(alloc, text, &failures, showing);
     drop(failures);
     let text = shown?;
-    let ending = if showing.only { ending_for(&text) } else { ending };
+    let ending = if showing.only {
+        ending_for(&text)
+    } else {
+        ending
+    };
     Ok(StatusAnswer { ending, text })
 }
 

@@ -20,8 +20,9 @@ use crate::texts::FileText;
 use log::Logged;
 use rc_args::{SessionCommand, UpdateRequest};
 use rc_cli::sessions::{Devices, Host, LiveFile, Service, Store, launch, live_file, log_for};
-use rc_cli::{RunLog, check_as_asked, lower_strays, seal_as_asked, status_as_asked};
-use rc_cli::update_as_asked;
+use rc_cli::{
+    RunLog, check_as_asked, lower_strays, seal_as_asked, status_as_asked, update_as_asked,
+};
 use rc_streams::messages::Messages;
 use rc_streams::output_folder::OutputFolder;
 use std::io::{Read, Write};

@@ -75,7 +75,8 @@ fn carry_out_on<'x, T: Threads + Wait + Sync>(
     enter(rt, opened, status);
     show_journal(rt, opened, &printed);
     show_tails(rt, opened, status);
-    tell_hints(rt, opened, typed.kept(), &printed.answers, store.error(), &told);
+    let (input, answers) = (typed.kept(), &printed.answers);
+    tell_hints(rt, opened, input, answers, store.error(), &told);
     tell_workers(rt, threads, &told);
     tell_why(rt, opened, status);
     tell_down(rt, opened, files, status);
