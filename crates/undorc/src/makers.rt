@@ -210,11 +210,16 @@ fn are_same_by(sign: u8, one: &[u8], other: &[u8]) -> bool {
     next_by(sign, left).is_none()
 }
 
+/// Returns the place behind a word and the blank that follows it.
+fn end_of(place: usize, word: &[u8]) -> usize {
+    place.saturating_add(word.len()).saturating_add(1)
+}
+
 /// Returns the first word of a line that begins with a sign, and what follows it.
 fn next_by(sign: u8, line: &[u8]) -> Option<(&[u8], &[u8])> {
     let mut behind = 0;
     for word in line.split(|byte| *byte == b' ') {
-        behind += word.len() + 1;
+        behind = end_of(behind, word);
         if word.starts_with(&[sign]) {
             return Some((word, line.get(behind..).unwrap_or(&[])));
         }
