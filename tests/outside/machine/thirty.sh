@@ -75,7 +75,7 @@ while [ "$round" -lt 30 ]; do
         machine/manage change > /run/x 2> /run/told" 2> "$room/said" || true
     is "kill $round, of $command: all agree" '' "$(differ)"
 done
-is 'the watch has seen the scripts' yes "$(script '[ "$(ls /run/watched | wc -l)" -gt 100 ] && echo yes')"
+is 'the watch has seen the scripts' yes "$(script '[ "$(ls /run/watched | wc -l)" -gt 60 ] && echo yes')"
 is 'no two scripts of one service ran side by side' '' "$(script 'cat /run/overlaps 2> /dev/null')"
 script 'export UNDORC_NAME=two UNDORC_WAY=up; sh -c ". ./watch; sleep 60" &
     timeout 20 sh -c "until grep -qs up /run/watched/two,*; do sleep 0.1; done"; UNDORC_WAY=down sh -c ". ./watch"'
