@@ -21,6 +21,7 @@ use rc_historytext::HistoryFault;
 use rc_names::NoMem;
 use rc_recovery::TwoFiles;
 use rc_streams::{live_lock, run_file, stop_file};
+use std::io::ErrorKind;
 
 /// Returns the note on what stands beside the file of a session that is not locked: the run log for
 /// `status`, and for other commands whether one is under way or was cut short.
@@ -45,19 +46,33 @@ pub(crate) fn look<'a>(
 fn seen<'a>(rt: &'a HostRuntime, path: &'a str) -> Result<Note<'a>, OpenFault<'a>>
     ensures { IfOk result (IsLogOf path.entry) }
 {
-    let was_free = is_free(rt, path);
-    match LogText::read(rt, path) {
-        Ok(log) => {
-            let is_cut = was_free && is_free(rt, path);
+    let was_free = match is_free(rt, path) {
+        Ok(free) => free,
+        Err(fault) => return Err(fault),
+    };
+    let log = match LogText::read(rt, path) {
+        Ok(log) => log,
+        Err(fault) => return Err(fault),
+    };
+    match is_free(rt, path) {
+        Ok(free) => {
+            let is_cut = was_free && free;
             Ok(Note::Logged(SeenLog { log, is_cut }))
         }
-        Err(fault) => Err(fault),
+        Err(fault) => {
+            drop(log);
+            Err(fault)
+        }
     }
 }
 
 // Returns true if no program has the lock of a session. If that can't be asked, one may have it.
-fn is_free(rt: &HostRuntime, path: &str) -> bool {
-    matches!(live_lock::is_held(rt, path), Ok(false))
+fn is_free<'a>(rt: &HostRuntime, path: &str) -> Result<bool, OpenFault<'a>> {
+    match live_lock::is_held(rt, path) {
+        Ok(held) => Ok(!held),
+        Err(error) if error.kind() == ErrorKind::OutOfMemory => Err(OpenFault::Memory),
+        Err(_) => Ok(false),
+    }
 }
 
 /// Enters what a command that was cut short has moved. The file of the session is locked.
