@@ -20,7 +20,7 @@ use rc_script::SessionLine;
 use rc_streams::Noted;
 use rc_streams::ending::REFUSED;
 use rc_streams::messages::{MESSAGE, Messages};
-use std::io;
+use std::io::{self, ErrorKind};
 use std::sync::Wait;
 use std::thread::Threads;
 
@@ -73,7 +73,7 @@ fn carry_out_on<'x, T: Threads + Wait + Sync>(
     } = devices;
     let store = store_in(outputs);
     enter(rt, opened, status);
-    show_journal(rt, opened, &printed);
+    let status = show_journal(rt, opened, &printed, status);
     show_tails(rt, opened, status);
     let (input, answers) = (typed.kept(), &printed.answers);
     tell_hints(rt, opened, input, answers, store.error(), &told);
@@ -114,10 +114,16 @@ fn held_for(rt: &HostRuntime, opened: &Opened<'_>) -> Option<Vec<u8>> {
     }
 }
 
-/// Prints a journal that is held, with the commands that made its entries.
-fn show_journal(rt: &HostRuntime, opened: &Opened<'_>, printed: &Printed<'_>) {
-    if let Some(journal) = &printed.held {
-        let _ = history::show(rt, opened.session().live, journal);
+/// Prints a journal, if it is held, with the commands that made its entries. Returns the status,
+/// which was this before.
+fn show_journal(rt: &HostRuntime, opened: &Opened<'_>, printed: &Printed<'_>, status: u8) -> u8 {
+    let Some(journal) = &printed.held else {
+        return status;
+    };
+    match history::show(rt, opened.session().live, journal) {
+        Ok(()) => status,
+        Err(error) if error.kind() == ErrorKind::OutOfMemory => tell_failure(rt, "Memory"),
+        Err(_) => tell_failure(rt, "Write"),
     }
 }
 

@@ -205,6 +205,14 @@ done
 journal_shows 'a full journal drops its first entry' three \
     'at 2 of 3\n0 +good\n  status 0: start good\n1 -good\n  status 0: stop good\nok\n'
 rm three*
+if [ -w /dev/full ]; then
+    : > out
+    echo 0 > status
+    "$program" journal -v -b scripts -l two > /dev/full 2> err || echo $? > status
+    wants '' 'undorc: Write\n'
+    judge 'a journal that can not be written' 111
+fi
+echo 0 > status
 journal_shows 'a seal begins the journal anew' two 'at 1 of 2\n0 +good\n  status 0: start good\nok\n'
 
 # `status -v` has since when each service is where it is, by that log. What it does not say, as before it began or of a
