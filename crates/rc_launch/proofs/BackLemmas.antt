@@ -1,7 +1,7 @@
 -- An undo that goes back to a state, undo by undo.
-use Rattle.std.proofs.Common.{◌≡◌, ◌∙◌, ◌<◌, ◌-◌, ◌==◌, ◌||◌, ℕ, zero, suc, Bool, true, false}
+use Rattle.std.proofs.Common.{◌≡◌, ◌∙◌, ◌<◌, ◌-◌, ◌==◌, ◌||◌, ℕ, suc, Bool, true, false}
 use Rattle.std.proofs.Common.{List, Option, None, Some, Result, Ok, IfOk, ap, arith, nat_lt, refl}
-use Rattle.std.proofs.Common.{subst, sym, if◌then◌else◌}
+use Rattle.std.proofs.Common.{subst, sym}
 use Rattle.std.proofs.lemmas.Bool.{eqb-true, ltb-false, or_parts}
 use Rattle.rc_historytext.specs.Halting.{Halts}
 use Rattle.rc_historytext.specs.Present.{StandingText}
@@ -9,7 +9,7 @@ use Rattle.rc_historytext.specs.Travelling.{Travels}
 use Rattle.rc_launch.specs.Back.{ArrivesBy, ComesBackTo, CountsBack, StandsOn, StopsBack}
 use Rattle.rc_launch.specs.Back.{StopsBefore, UndoesTo, goes_over, steps_by}
 use Rattle.rc_launch.specs.Halted.{IsRefusedOn}
-use Rattle.rc_launch.specs.HeldHistory.{Leads, history_held}
+use Rattle.rc_launch.specs.HeldHistory.{Leads}
 use Rattle.rc_launch.specs.declared.going_back.Back.{Back}
 use Rattle.rc_launch.specs.declared.live_store.LiveStore.{LiveStore}
 

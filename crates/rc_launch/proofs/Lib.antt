@@ -17,3 +17,15 @@ mod TravelLemmas
 mod BackLemmas
 -- A command is served alone by the history that its store was found to hold.
 mod AloneLemmas
+-- What is put into a store, one text after the other, as an update and a restart put theirs.
+mod PuttingLemmas
+-- Where all that was planned is done, what is live is the target.
+mod Arriving
+-- An update and a restart that are done keep their lines in the history of their store.
+mod UpdateLemmas
+-- What a check has repaired that ends with status 0.
+mod MendLemmas
+-- A command of several steps from where its history stands, once what was cut short is taken back.
+mod StepLemmas
+-- The texts of a session and of its database that were read.
+mod ReadLemmas

@@ -52,7 +52,7 @@ use Rattle.rc_launch.proofs.HaltLemmas.{done_not_halted, not_halted}
 use Rattle.rc_launch.proofs.NextStates.{comes_next}
 
 -- a session that ended with status 0 was served, and all is done
-done_of : (ended : Result Ending SessionFault) (before after : Option (List ℕ))
+pub done_of : (ended : Result Ending SessionFault) (before after : Option (List ℕ))
     → IsEndTold ended 0 before after → ended ≡ Ok Done
 done_of (Ok Done) before after told = refl
 done_of (Ok Refused) before after told = let no : 0 ≡ 1 = told.0 in absurd (omega (arith, no))
@@ -239,7 +239,8 @@ made_way ending on limit kept (ByPrograms runner controller most) filing d worke
     kept _ filing d io once session says named file held run
 
 -- a file that is named is read
-named_file : (path : Option (List ℕ)) (file : LiveFile) → path ≢ None → file_named path file ≡ file
+pub named_file : (path : Option (List ℕ)) (file : LiveFile) → path ≢ None
+    → file_named path file ≡ file
 named_file None file named = absurd (named refl)
 named_file (Some path) file named = refl
 

@@ -23,15 +23,21 @@ pub mod Opening
 pub mod HeldHistory
 -- The history in which a command keeps its session.
 pub mod Frames
+-- What a text that is put into the store of a session makes of its history.
+pub mod Putting
 -- What an undo or a redo of a history leaves of its text that ends with status 1 or 2.
 pub mod Halted
 -- An undo that goes back to a state of the journal, by one undo after the other.
 pub mod Back
+-- What an update and a restart make of a history: both first take back what was cut short.
+pub mod TwoSteps
 -- An undo or a redo is asked for, and led so.
 pub mod Ways
--- The status of a check that has repaired what it found.
+-- What a check has repaired of what it found, and its status.
 pub mod Mending
 -- A command is carried out as on a session that is kept alone.
 pub mod Alone
 -- What a command comes to on what was read for it.
 pub mod Serving
+-- The texts of a session and of its database are read.
+pub mod Readable

@@ -1,13 +1,17 @@
 -- An undo or a redo is asked for, and led so.
-use Rattle.std.specs.Prelude.{◌≡◌, ℕ, Bool, false, [], None, Some}
+use Rattle.std.specs.Prelude.{◌≡◌, ℕ, Bool, false, true, [], None, Some}
 use Rattle.rc_args.specs.OnceAsked.{Said, once_saying_of}
 use Rattle.rc_args.specs.declared.once_words.Once.{Once}
 use Rattle.rc_args.specs.declared.session_command.SessionCommand.{SessionCommand}
+use Rattle.rc_args.specs.declared.named_words.NamedRequest.{NamedRequest}
+use Rattle.rc_args.specs.declared.update_words.UpdateRequest.{UpdateRequest}
 use Rattle.rc_args.specs.declared.session_command.SessionCommand.TheVariants.{Line}
+use Rattle.rc_args.specs.declared.session_command.SessionCommand.TheVariants as command
 use Rattle.rc_script.specs.Says.{SaysStep}
 use Rattle.rc_historytext.specs.Travelling.{way_command}
 use Rattle.rc_launch.specs.declared.carrying_out.Led.{Led}
 use Rattle.rc_launch.specs.declared.carrying_out.Led.TheVariants.{Alone, Back, Way}
+use Rattle.rc_launch.specs.declared.carrying_out.Led.TheVariants as led
 
 -- a line is an undo (not `on`) or a redo (`on`), with this limit
 abbrev pub IsWayLine : Once → (on : Bool) → (limit : ℕ) → Type 0
@@ -38,3 +42,27 @@ IsLedBack state other = ⊥
 abbrev pub IsLedAlone : Led → Type 0
 IsLedAlone Alone = Unit {0}
 IsLedAlone other = ⊥
+
+-- a command is an update that is not only shown, or a restart
+abbrev pub AsksUpdate : SessionCommand → UpdateRequest → Type 0
+AsksUpdate asked request = (asked ≡ command.Update request) × (request.dry ≡ false)
+
+abbrev pub AsksRestart : SessionCommand → NamedRequest → Type 0
+AsksRestart asked request = asked ≡ command.Restart request
+
+-- or a check that repairs
+abbrev pub AsksMend : SessionCommand → NamedRequest → Type 0
+AsksMend asked request = (asked ≡ command.Check request) × (request.repairs ≡ true)
+
+-- it is led as one
+abbrev pub IsLedUpdate : UpdateRequest → Led → Type 0
+IsLedUpdate request (led.Update given) = given.now ≡ request
+IsLedUpdate request other = ⊥
+
+abbrev pub IsLedRestart : NamedRequest → Led → Type 0
+IsLedRestart request (led.Restart given) = given.now ≡ request
+IsLedRestart request other = ⊥
+
+abbrev pub IsLedMend : NamedRequest → Led → Type 0
+IsLedMend request (led.Mend given) = given.now ≡ request
+IsLedMend request other = ⊥

@@ -3,6 +3,7 @@
 ghost use Rattle.std.specs.Prelude.{IfOk};
 ghost use Rattle.rc_historytext.specs.Travelling.{GoesOn};
 ghost use Rattle.rc_launch.specs.HeldHistory.{MeetsBorder};
+ghost use Rattle.rc_launch.specs.TwoSteps.{GoesBackInside};
 
 use rc_db::Db;
 use rc_dbtext::database_of;
@@ -42,7 +43,9 @@ pub(crate) fn is_border(alloc: Global, history: &[u8], is_on: bool) -> Result<bo
 
 /// Returns true if a history stands on a state that is passed, and an undo from there ends in the
 /// present generation, as it does after a restart that was cut short.
-pub(crate) fn goes_back_inside(alloc: Global, history: &[u8]) -> Result<bool, HistoryFault> {
+pub(crate) fn goes_back_inside(alloc: Global, history: &[u8]) -> Result<bool, HistoryFault>
+    ensures { IfOk result (GoesBackInside history.now) }
+{
     match standing_of(alloc, history) {
         Ok(standing) => {
             let ends_inside = standing.has_inside(false) && !standing.passes_inside(false);

@@ -1,8 +1,13 @@
 //! A command is carried out on the files that were opened for it.
-ghost use Rattle.std.specs.Prelude.{◌≡◌, ◌⊎◌, ℕ, Bool, false, IsSome, IsTrue, None, Some};
-ghost use Rattle.std.specs.Prelude.{is_some};
+ghost use Rattle.std.specs.Prelude.{◌≡◌, ◌⊎◌, ℕ, Bool, false, IsSome, IsTrue, List, None, Some};
+ghost use Rattle.std.specs.Prelude.{is_some, map, string_bytes};
+ghost use Rattle.rc_update.specs.Conversions.{conversions_of};
 ghost use Rattle.rc_streams.specs.Noting.{HasFailed};
 ghost use Rattle.rc_args.specs.OnceAsked.{once_saying_of};
+ghost use Rattle.rc_args.specs.NamedAsked.{named_ask_of};
+ghost use Rattle.rc_args.specs.SessionAsked.{session_ask_of};
+ghost use Rattle.rc_args.specs.declared.named_words.NamedRequest.{NamedRequest};
+ghost use Rattle.rc_args.specs.declared.update_words.UpdateRequest.{UpdateRequest};
 ghost use Rattle.rc_cli.specs.Session.{dealt};
 ghost use Rattle.rc_cli.specs.Storing.{store_of};
 ghost use Rattle.rc_cli.specs.declared.sessions.keeping.LiveFile.{LiveFile};
@@ -11,11 +16,15 @@ ghost use Rattle.rc_historytext.specs.Travelling.{Travels};
 ghost use Rattle.rc_launch.specs.Alone.{IsServed, StaysInside};
 ghost use Rattle.rc_launch.specs.Halted.{HasHalted, IsRefusedOn};
 ghost use Rattle.rc_launch.specs.HeldHistory.{Leads, history_held, session_kept};
-ghost use Rattle.rc_launch.specs.Loading.{NamesFile};
+ghost use Rattle.rc_launch.specs.Loading.{NamesFile, bytes_of, session_in};
+ghost use Rattle.rc_launch.specs.Mending.{MendsFrom};
+ghost use Rattle.rc_launch.specs.Readable.{IsOpenedRead, IsPresentRead};
+ghost use Rattle.rc_launch.specs.TwoSteps.{RestartsFrom, UpdatesFrom};
 ghost use Rattle.rc_launch.specs.Back.{ComesBackTo, StopsBack};
 ghost use Rattle.rc_launch.specs.Serving.{Carries, IsReadAs, logged_of};
-ghost use Rattle.rc_launch.specs.Ways.{AsksBack, AsksWay, IsLedAlone, IsLedBack, IsLedOn};
-ghost use Rattle.rc_launch.specs.Ways.{IsWayLine};
+ghost use Rattle.rc_launch.specs.Ways.{AsksBack, AsksMend, AsksRestart, AsksUpdate, AsksWay};
+ghost use Rattle.rc_launch.specs.Ways.{IsLedAlone, IsLedBack, IsLedMend, IsLedOn, IsLedRestart};
+ghost use Rattle.rc_launch.specs.Ways.{IsLedUpdate, IsWayLine};
 
 use crate::execution::Execution;
 use crate::going_back::{Aim, go_back};
@@ -93,11 +102,44 @@ pub fn carry_out<'x, T: Threads + Wait + Sync, R: Read, W: Write, F: Write>(
         Leads (store_of devices.old.outputs.keeper) (store_of devices.new.outputs.keeper)
         (StopsBack state) }
 
+    // With status 0 the texts of the present generation are those of a database and of a session of
+    // it. Where FILE holds no history, it has come to state 0, and that holds of what was opened.
+    ensures read { (state limit : ℕ) → AsksBack opened.now.loaded.command state limit →
+        result.code ≡ 0 → (bytes : List ℕ) →
+        history_held (store_of devices.old.outputs.keeper) ≡ Some bytes →
+        IsPresentRead (session_in opened.now.loaded) bytes }
+    ensures bare { (state limit : ℕ) → AsksBack opened.now.loaded.command state limit →
+        result.code ≡ 0 → history_held (store_of devices.old.outputs.keeper) ≡ None →
+        (state ≡ 0) × IsOpenedRead opened.now }
+
     // With status 1 it is refused, as an undo is.
     ensures unmoved { (state limit : ℕ) → AsksBack opened.now.loaded.command state limit →
         NamesFile opened.now.loaded → result.code ≡ 1 →
         Leads (store_of devices.old.outputs.keeper) (store_of devices.new.outputs.keeper)
         (IsRefusedOn false) }
+
+    // An update with status 0 first takes back what was cut short, and then carries the history
+    // over to its database by both steps, or leaves it, where it is up to date.
+    ensures updates { (request : UpdateRequest) → AsksUpdate opened.now.loaded.command request →
+        NamesFile opened.now.loaded → result.code ≡ 0 →
+        Leads (store_of devices.old.outputs.keeper) (store_of devices.new.outputs.keeper)
+        (UpdatesFrom (bytes_of opened.now.loaded.new)
+        (conversions_of request.conversions.items)) }
+
+    // A restart with status 0 first takes back what an undo takes back inside the present
+    // generation, and then takes both of its steps there.
+    ensures restarts { (request : NamedRequest) →
+        AsksRestart opened.now.loaded.command request →
+        NamesFile opened.now.loaded → result.code ≡ 0 →
+        Leads (store_of devices.old.outputs.keeper) (store_of devices.new.outputs.keeper)
+        (RestartsFrom (map string_bytes request.names.items)) }
+
+    // A check that repairs, with status 0, first takes back what a restart does. Then all that it
+    // found elsewhere is where the session says: strays are down, and what has fallen is restarted.
+    ensures mends { (request : NamedRequest) → AsksMend opened.now.loaded.command request →
+        NamesFile opened.now.loaded → result.code ≡ 0 →
+        Leads (store_of devices.old.outputs.keeper) (store_of devices.new.outputs.keeper)
+        (MendsFrom (named_ask_of request) (session_ask_of (session_in opened.now.loaded))) }
 
     // What leads no further than one session is carried out as `serve` does it.
     ensures served { IsServed opened.now.loaded.command
@@ -133,6 +175,12 @@ fn led_by<'a>(command: &'a SessionCommand<'_>, is_history: bool) -> Led<'a>
         IsLedOn on result }
     ensures back { (state limit : ℕ) → AsksBack command.now state limit →
         IsLedBack state result }
+    ensures update { (request : UpdateRequest) → AsksUpdate command.now request →
+        IsLedUpdate request result }
+    ensures restart { (request : NamedRequest) → AsksRestart command.now request →
+        IsLedRestart request result }
+    ensures mend { (request : NamedRequest) → AsksMend command.now request →
+        IsLedMend request result }
     ensures served { IsServed command.now is_history → IsLedAlone result }
 {
     match command {

@@ -1,12 +1,14 @@
 //! An undo that goes back to a state of the journal, by one undo after the other.
-ghost use Rattle.std.specs.Prelude.{◌≡◌, false, IfOk};
+ghost use Rattle.std.specs.Prelude.{◌≡◌, List, ℕ, None, Some, false, IfOk};
+ghost use Rattle.std.specs.Borrow.{Bor};
 ghost use Rattle.rc_streams.specs.Noting.{HasFailed};
 ghost use Rattle.rc_cli.specs.Storing.{store_of};
 ghost use Rattle.rc_historytext.specs.Halting.{Halts};
 ghost use Rattle.rc_historytext.specs.Travelling.{Travels};
 ghost use Rattle.rc_launch.specs.Halted.{HasHalted, IsRefusedOn};
-ghost use Rattle.rc_launch.specs.HeldHistory.{Leads};
-ghost use Rattle.rc_launch.specs.Loading.{NamesFile};
+ghost use Rattle.rc_launch.specs.HeldHistory.{Leads, history_held};
+ghost use Rattle.rc_launch.specs.Loading.{NamesFile, session_in};
+ghost use Rattle.rc_launch.specs.Readable.{AreRead, IsOpenedRead, IsPresentRead};
 ghost use Rattle.rc_launch.specs.Back.{ArrivesBy, ComesBackTo, CountsBack, IsBackBy, StopsBack};
 ghost use Rattle.rc_launch.specs.Back.{StopsBefore, UndoesTo, goes_over, steps_by};
 
@@ -59,8 +61,13 @@ pub(crate) fn go_back<'x, T: Threads + Wait + Sync, R: Read, W: Write, F: Write>
     ensures stopped { result ≡ 2 → NamesFile execution.now.opened.now.loaded →
         Leads (store_of devices.old.outputs.keeper) (store_of devices.new.outputs.keeper)
         (StopsBack aim.state) }
+    ensures bare { result ≡ 0 → history_held (store_of devices.old.outputs.keeper) ≡ None →
+        (aim.state ≡ 0) × IsOpenedRead execution.now.opened.now }
+    ensures read { result ≡ 0 → (bytes : List ℕ) →
+        history_held (store_of devices.old.outputs.keeper) ≡ Some bytes →
+        IsPresentRead (session_in execution.now.opened.now.loaded) bytes }
 {
-    match unread(execution, history_in(devices)) {
+    match unread(execution, devices.outputs.keeper.store.history()) {
         Some(fault) => tell_unread(execution.rt.alloc(), fault, devices),
         None => match devices.outputs.keeper.store.history() {
             Some(_) => go_back_on(execution, aim, devices),
@@ -72,12 +79,20 @@ pub(crate) fn go_back<'x, T: Threads + Wait + Sync, R: Read, W: Write, F: Write>
 
 // Returns why the texts of a session and of its database are refused, if they are: those of the
 // present generation of a history, or, where there is none, those that were read.
-fn unread<'f, T>(execution: &Execution<'_, '_, T>, history: &[u8]) -> Option<SessionFault<'f>> {
+fn unread<'f, T>(
+    execution: &Execution<'_, '_, T>,
+    history: Option<&[u8]>,
+) -> Option<SessionFault<'f>>
+    ensures bare { history.entry ≡ None → result ≡ None →
+        IsOpenedRead execution.now.opened.now }
+    ensures read { (bytes : Bor (List ℕ)) → history.entry ≡ Some bytes → result ≡ None →
+        IsPresentRead (session_in execution.now.opened.now.loaded) bytes.now }
+{
     let (alloc, opened) = (execution.rt.alloc(), execution.opened);
-    if history.is_empty() {
+    let Some(history) = history else {
         let base = bytes_of(&opened.loaded.base);
         return unread_texts(alloc, opened.session(), base, read_of(opened));
-    }
+    };
     match present_of(alloc, history) {
         Ok(present) => {
             let live = LiveFile::Text(present.session);
@@ -93,7 +108,9 @@ fn unread_texts<'f>(
     request: &SessionRequest<'_>,
     base: &[u8],
     live: LiveFile<'_>,
-) -> Option<SessionFault<'f>> {
+) -> Option<SessionFault<'f>>
+    ensures { result ≡ None → AreRead base.now request.now live.entry }
+{
     let db = match spelled(alloc, Some(base), &[]) {
         Ok((db, _none)) => db,
         Err(fault) => return Some(fault),

@@ -2,8 +2,8 @@
 //! which it is the present one. The file is replaced whole. A text that stands there already is not
 //! written again; a file beside it shows that it could be.
 ghost use Rattle.std.specs.Prelude.{◌≡◌, ◌≢◌, ◌↔◌, None, option_map, if◌then◌else◌, IfErr, IfOk};
-ghost use Rattle.std.specs.Prelude.{true, IfSome, IsErr, IsNone, IsOk, IsOkAnd, IsSome, IsTrue};
-ghost use Rattle.std.specs.Prelude.{OnErr, OnOk, Some};
+ghost use Rattle.std.specs.Prelude.{false, true, IfSome, IsErr, IsNone, IsOk, IsOkAnd, IsSome};
+ghost use Rattle.std.specs.Prelude.{IsTrue, OnErr, OnOk, Some};
 ghost use Rattle.rc_args.specs.Making.{making_ask_of};
 ghost use Rattle.rc_args.specs.Programs.{StartsBy};
 ghost use Rattle.rc_launch.specs.Beside.{AreRunsOf, IsLocked};
@@ -13,11 +13,14 @@ ghost use Rattle.rc_historytext.specs.Updating.{IsCrossed, IsSettled};
 ghost use Rattle.rc_launch.specs.HeldHistory.{IsAlone, KeepsThere, Leads, WasLedFrom};
 ghost use Rattle.rc_launch.specs.HeldHistory.{history_held, session_kept};
 ghost use Rattle.rc_launch.specs.Frames.{IsFrameBack, IsFrameOf};
+ghost use Rattle.rc_launch.specs.Putting.{Announces, IsPutAs, IsPutIn, Puts, begins_next, behind};
+ghost use Rattle.rc_launch.specs.Putting.{IsKeptThere, manner_of, stepping};
 ghost use Rattle.rc_launch.specs.declared.live_store.Frame.TheVariants as frame;
 
 use crate::loading::Loaded;
 use crate::opened::Opened;
 use crate::runs::{Runs, RunsFault};
+use crate::texts::FileText;
 use crate::tried_lock::TriedLock;
 use rc_args::{Making, Once, SessionCommand};
 use rc_cli::sessions::{KeptText, Store, keep_fault};
@@ -199,12 +202,32 @@ impl<'a> LiveStore<'a> {
         self.put_made(settled)
     }
 
-    /// Sets what a command does to the states of the session, for all that is kept from now on.
-    pub(crate) fn keep_as(&mut self, keeping: Keeping)
-        ensures { history_held self.new ≡ history_held self.old }
+    /// Prepares the store for a command of several steps: the states that it passes are passed, and
+    /// what is kept from now on is kept in the history as it is now.
+    pub(crate) fn begin_steps(&mut self)
+        ensures held { self.new.frame ≡ self.old.frame }
+        ensures manner { manner_of self.new ≡ stepping None }
     {
-        self.keeping = keeping;
+        self.keeping = Keeping::Step;
         self.is_of_line = false;
+        self.next = None;
+        self.is_entering = false;
+    }
+
+    /// Prepares the store for an update to this database by these conversions.
+    pub(crate) fn begin_update(&mut self, database: &'a FileText<'_>, list: &'a [Conversion<'a>])
+        ensures held { self.new.frame ≡ self.old.frame }
+        ensures manner { IfSome self.new.next (λ next.
+            (next.database.now ≡ database.now.bytes.items) × (next.list.now ≡ list.now)
+            × (manner_of self.new ≡ stepping (Some next))) }
+        ensures some { IsSome self.new.next }
+    {
+        self.begin_steps();
+        self.next = Some(Next {
+            database: database.bytes(),
+            list,
+            source: database.path(),
+        });
     }
 
     /// Prepares the store for one line of an undo or a redo: what is kept from now on is kept in
@@ -274,6 +297,7 @@ impl<'a> LiveStore<'a> {
     fn put_history(&mut self, framed: Framed) -> io::Result<()>
         ensures ok { OnOk result (self.new.frame ≡ frame.History framed) }
         ensures left { OnErr result (self.new.frame ≡ self.old.frame) }
+        ensures manner { manner_of self.new ≡ manner_of self.old }
     {
         match self.written(framed.whole()) {
             Ok(()) => {
@@ -356,27 +380,45 @@ impl<'a> LiveStore<'a> {
     fn framed(&self, text: &[u8]) -> Option<Result<Framed, HistoryFault>>
         ensures alone { IsNone result → IsAlone self.now.frame }
         ensures kept { IfSome result (λ made. IfOk made (λ f. f.kept ≡ text.now)) }
+        ensures put { IfSome result (λ made. IfOk made (λ f.
+            IsPutIn self.now.frame (manner_of self.now) text.now f.whole)) }
+    {
+        match &self.frame {
+            Frame::Alone(_) => None,
+            Frame::Begins(database) => {
+                Some(Framed::begun(self.rt.alloc(), database, text, self.keeping))
+            }
+            Frame::History(framed) => Some(self.framed_in(framed, text)),
+        }
+    }
+
+    // Returns the frame of a history in which this session is the present one.
+    fn framed_in(&self, framed: &Framed, text: &[u8]) -> Result<Framed, HistoryFault>
+        ensures kept { IfOk result (λ f. f.kept ≡ text.now) }
+        ensures put { IfOk result (λ f. self.now.is_of_line ≡ false →
+            IsPutAs (begins_next (manner_of self.now)) self.now.keeping framed.now.whole text.now
+            f.whole) }
     {
         let alloc = self.rt.alloc();
-        match (&self.frame, self.next) {
-            (Frame::Alone(_), _) => None,
-            (Frame::Begins(database), _) => {
-                Some(Framed::begun(alloc, database, text, self.keeping))
-            }
-            (Frame::History(framed), Some(next)) if self.is_entering => {
-                Some(framed.entered(alloc, next.database, text, next.list))
-            }
-            (Frame::History(framed), _) if self.is_of_line => {
-                Some(framed.instead(alloc, text, self.keeping))
-            }
-            (Frame::History(framed), _) => Some(framed.with(alloc, text, self.keeping)),
+        match self.begins() {
+            Some(next) => framed.entered(alloc, next.database, text, next.list),
+            None if self.is_of_line => framed.instead(alloc, text, self.keeping),
+            None => kept_in(alloc, framed, text, self.keeping),
         }
+    }
+
+    // Returns the generation that begins with the next session that is kept, if one does.
+    fn begins(&self) -> Option<Next<'a>>
+        ensures { result ≡ begins_next (manner_of self.now) }
+    {
+        if self.is_entering { self.next } else { None }
     }
 
     // Notes why a write failed.
     fn noted(&mut self, put: io::Result<()>) -> Result<(), KeepFault>
         ensures io { IfErr result (λ fault. fault ≡ KeepFault.Io → IsSome self.new.error) }
         ensures frame { self.new.frame ≡ self.old.frame }
+        ensures manner { manner_of self.new ≡ manner_of self.old }
         ensures ok { OnOk result (IsOk put) }
         ensures err { OnErr result (IsErr put) }
     {
@@ -422,9 +464,9 @@ impl Store for LiveStore<'_> {
 
     ghost failed = { λ s. IsSome s.error };
 
-    ghost put = { λ old text new. Unit {0} };
+    ghost put = { λ old text new. Puts old text new };
 
-    ghost entered = { λ old new. Unit {0} };
+    ghost entered = { λ old new. Announces old new };
 
     fn replace(&mut self, text: KeptText<'_>) -> Result<(), KeepFault> {
         let put = self.put_session(text.bytes());
@@ -442,6 +484,7 @@ impl LiveStore<'_> {
         ensures ok { OnOk result (IfSome (session_kept self.new) (λ held. held ≡ text.now)) }
         ensures known { IsSome (session_kept self.old) → IsSome (session_kept self.new) }
         ensures left { OnErr result (session_kept self.new ≡ session_kept self.old) }
+        ensures put { OnOk result (Puts self.old text.now self.new) }
     {
         match self.framed(text) {
             None => self.put_alone(text),
@@ -453,6 +496,7 @@ impl LiveStore<'_> {
     // Puts a history into the file, which is made first if it is missing.
     fn put_first(&mut self, text: &[u8], framed: Framed) -> io::Result<()>
         ensures ok { OnOk result (self.new.frame ≡ frame.History framed) }
+        ensures manner { OnOk result (manner_of self.new ≡ behind (manner_of self.old)) }
         ensures left { OnErr result (self.new.frame ≡ self.old.frame) }
     {
         match self.made_first(text) {
@@ -480,6 +524,7 @@ impl LiveStore<'_> {
     fn put_entered(&mut self, framed: Framed) -> io::Result<()>
         ensures ok { OnOk result (self.new.frame ≡ frame.History framed) }
         ensures left { OnErr result (self.new.frame ≡ self.old.frame) }
+        ensures manner { OnOk result (manner_of self.new ≡ behind (manner_of self.old)) }
     {
         let source = match self.next {
             Some(next) if self.is_entering => Some(next.source),
@@ -487,11 +532,41 @@ impl LiveStore<'_> {
         };
         self.source = source;
         let put = self.put_history(framed);
-        if put.is_ok() && self.is_entering {
+        if put.is_ok() {
+            self.leave_entered();
+        }
+        put
+    }
+
+    // Notes that a generation that an update has entered is begun.
+    fn leave_entered(&mut self)
+        ensures frame { self.new.frame ≡ self.old.frame }
+        ensures manner { manner_of self.new ≡ behind (manner_of self.old) }
+    {
+        if self.is_entering {
             self.is_entering = false;
             self.next = None;
         }
-        put
+    }
+}
+
+// Returns the frame of a history with another session kept in it.
+fn kept_in(
+    alloc: Global,
+    framed: &Framed,
+    text: &[u8],
+    keeping: Keeping,
+) -> Result<Framed, HistoryFault>
+    ensures kept { IfOk result (λ f. f.kept ≡ text.now) }
+    ensures whole { IfOk result (λ f.
+        IsKeptThere keeping framed.now.whole text.now f.whole) }
+{
+    match framed.with(alloc, text, keeping) {
+        Ok(next) => {
+            prove!(next.was_kept_in(framed.whole(), keeping));
+            Ok(next)
+        }
+        Err(fault) => Err(fault),
     }
 }
 

@@ -2,15 +2,17 @@
 ghost use Rattle.std.specs.Prelude.{◌≡◌, map, option_map, string_bytes, None, Some};
 ghost use Rattle.rc_streams.specs.Noting.{HasFailed, inner_of};
 ghost use Rattle.rc_args.specs.SessionAsked.{session_ask_of};
-ghost use Rattle.rc_cli.specs.Launching.{Launches};
+ghost use Rattle.rc_args.specs.UpdateAsked.{update_ask_of};
+ghost use Rattle.rc_cli.specs.Launching.{Launches, LeadsLaunched};
 ghost use Rattle.rc_cli.specs.Session.{asked_with, dealt};
 ghost use Rattle.rc_cli.specs.Status.{run_log_of};
 ghost use Rattle.rc_cli.specs.Storing.{store_of};
 ghost use Rattle.rc_cli.specs.Straying.{LowersStrays};
+ghost use Rattle.rc_cli.specs.UpdateEnds.{Leads};
 ghost use Rattle.log.specs.Handle.{max_level};
 ghost use Rattle.rc_launch.specs.Serving.{Carries, IsLogFor, IsReadAs};
 ghost use Rattle.rc_launch.specs.Serving.{logged_of};
-ghost use Rattle.rc_launch.specs.Loading.{bytes_in, session_in};
+ghost use Rattle.rc_launch.specs.Loading.{bytes_in, bytes_of, session_in};
 ghost use Rattle.rc_cli.specs.declared.sessions.keeping.LiveFile.{LiveFile};
 
 use crate::execution::Execution;
@@ -120,7 +122,7 @@ pub(crate) fn serve_on<'x, T: Threads + Wait + Sync, R: Read, W: Write, F: Write
 ) -> u8
     requires reader { HasFailed devices.old.reader → ⊥ }
     requires writer { HasFailed devices.old.outputs.writer → ⊥ }
-    ensures { Launches service.entry
+    ensures ended { Launches service.entry
         (asked_with (session_ask_of (session_in execution.now.opened.now.loaded)) (Some base.now)
         live.entry) result
         (dealt R.remaining W.contents S.holds devices.old.reader devices.new.reader
@@ -128,6 +130,11 @@ pub(crate) fn serve_on<'x, T: Threads + Wait + Sync, R: Read, W: Write, F: Write
         (HasFailed devices.new.reader) (HasFailed devices.new.outputs.writer)
         (S.failed (store_of devices.new.outputs.keeper))
         (F.contents devices.old.faults) (F.contents devices.new.faults) }
+    ensures led { result ≡ 0 → LeadsLaunched S.put service.entry
+        (asked_with (session_ask_of (session_in execution.now.opened.now.loaded)) (Some base.now)
+        live.entry) (R.remaining (inner_of devices.old.reader))
+        (R.remaining (inner_of devices.new.reader))
+        (store_of devices.old.outputs.keeper) (store_of devices.new.outputs.keeper) }
 {
     let opened = execution.opened;
     let log = log_of(execution.rt, opened);
@@ -144,6 +151,9 @@ pub(crate) fn serve_update<'x, T: Threads + Wait + Sync, R: Read, W: Write, F: W
     devices: &mut Devices<R, W, F, S>,
 ) -> u8
     requires writer { HasFailed devices.old.outputs.writer → ⊥ }
+    ensures { result ≡ 0 → Leads S.put S.entered base.now
+        (bytes_of execution.now.opened.now.loaded.new) (update_ask_of request.now) live.entry
+        (store_of devices.old.outputs.keeper) (store_of devices.new.outputs.keeper) }
 {
     let opened = execution.opened;
     let log = log_of(execution.rt, opened);
@@ -162,12 +172,13 @@ pub(crate) fn serve_strays<'x, T: Threads + Wait + Sync, R: Read, W: Write, F: W
     devices: &mut Devices<R, W, F, S>,
 ) -> u8
     requires writer { HasFailed devices.old.outputs.writer → ⊥ }
-    ensures { LowersStrays base.now
+    ensures told { LowersStrays base.now
         (session_ask_of (session_in execution.now.opened.now.loaded))
         (map string_bytes strays.now) result (HasFailed devices.new.outputs.writer)
         (W.contents (inner_of devices.old.outputs.writer))
         (W.contents (inner_of devices.new.outputs.writer))
         (F.contents devices.old.faults) (F.contents devices.new.faults) }
+    ensures unkept { devices.new.outputs.keeper ≡ devices.old.outputs.keeper }
 {
     let opened = execution.opened;
     let log = log_of(execution.rt, opened);

@@ -1,21 +1,34 @@
 //! Commands of two steps, an update and a restart. The state between them is passed. Each first
 //! takes back what was cut short before it: an update all of it, a restart what an undo takes back
 //! without crossing a border.
-ghost use Rattle.std.specs.Prelude.{OnOk};
+ghost use Rattle.std.specs.Prelude.{◌≡◌, ◌≢◌, ℕ, List, None, Some, IfErr, IfOk, IfSome, IsTrue, Ok};
+ghost use Rattle.std.specs.Prelude.{OnOk, false, length, map, string_bytes};
 ghost use Rattle.rc_streams.specs.Noting.{HasFailed};
+ghost use Rattle.rc_update.specs.Conversions.{conversions_of};
+ghost use Rattle.rc_historytext.specs.Present.{IsPresent};
+ghost use Rattle.rc_historytext.specs.Travelling.{GoesOn};
+ghost use Rattle.rc_historytext.specs.Updating.{IsSettled};
+ghost use Rattle.rc_cli.specs.Storing.{store_of};
+ghost use Rattle.rc_launch.specs.HeldHistory.{Leads, LeadsOn, history_held};
+ghost use Rattle.rc_launch.specs.Loading.{NamesFile, bytes_of};
+ghost use Rattle.rc_launch.specs.TwoSteps.{CarriesBy, GoesBackInside, HoldsFor, IsKeptUpdate};
+ghost use Rattle.rc_launch.specs.TwoSteps.{IsTaken, IsToUpdate, Restarts, RestartsFrom, TakesBack};
+ghost use Rattle.rc_launch.specs.TwoSteps.{TakesBackInside, UpdatesFrom};
 
 use crate::borders::{goes_back_inside, goes_on_behind};
 use crate::execution::Execution;
 use crate::live_store::LiveStore;
 use crate::loading::bytes_of;
+use crate::opened::Opened;
 use crate::outcomes::{fail_on, hindered, say_done, word_of};
 use crate::serving::{read_of, serve, serve_on, serve_update};
 use crate::travel::{Way, travel};
 use rc_args::{NamedRequest, UpdateRequest};
 use rc_cli::sessions::{Devices, LiveFile, Service};
-use rc_historytext::{HistoryFault, Keeping, present_of};
+use rc_historytext::{HistoryFault, present_of};
 use rc_streams::Failure;
 use rc_streams::ending::{DONE, FAILED};
+use rc_update::Conversion;
 use std::alloc::Global;
 use std::io::{Read, Write};
 use std::sync::Wait;
@@ -31,17 +44,18 @@ pub(crate) struct Texts {
 /// Carries out an update, and returns the status. Once all is done, makes the current state a stop.
 pub(crate) fn update<'x, T: Threads + Wait + Sync, R: Read, W: Write, F: Write>(
     execution: &Execution<'x, '_, T>,
-    request: &UpdateRequest<'_>,
+    request: &'x UpdateRequest<'x>,
     devices: &mut Devices<R, W, F, LiveStore<'x>>,
 ) -> u8
     requires reader { HasFailed devices.old.reader → ⊥ }
     requires writer { HasFailed devices.old.outputs.writer → ⊥ }
+    ensures done { result ≡ 0 → NamesFile execution.now.opened.now.loaded →
+        IsKeptUpdate request.now →
+        Leads (store_of devices.old.outputs.keeper) (store_of devices.new.outputs.keeper)
+        (UpdatesFrom (bytes_of execution.now.opened.now.loaded.new)
+        (conversions_of request.now.conversions.items)) }
 {
-    let is_cut = match devices.outputs.keeper.store.history() {
-        Some(history) => goes_on_behind(execution.rt.alloc(), history, false),
-        None => Ok(false),
-    };
-    match taken_back(execution, is_cut, devices) {
+    match all_taken_back(execution, devices) {
         Ok(true) => hindered(carry_over(execution, request, devices)),
         Ok(false) => carry_over(execution, request, devices),
         Err(code) => code,
@@ -56,12 +70,34 @@ pub(crate) fn restart<'x, T: Threads + Wait + Sync, R: Read, W: Write, F: Write>
 ) -> u8
     requires reader { HasFailed devices.old.reader → ⊥ }
     requires writer { HasFailed devices.old.outputs.writer → ⊥ }
+    ensures done { result ≡ 0 → NamesFile execution.now.opened.now.loaded →
+        Leads (store_of devices.old.outputs.keeper) (store_of devices.new.outputs.keeper)
+        (RestartsFrom (map string_bytes request.now.names.items)) }
 {
     match inside_taken_back(execution, devices) {
         Ok(true) => hindered(serve_restart(execution, request, devices)),
         Ok(false) => serve_restart(execution, request, devices),
         Err(code) => code,
     }
+}
+
+// Undoes what was cut short. Returns true if something was, or the status of an undo that was not
+// done.
+fn all_taken_back<'x, T: Threads + Wait + Sync, R: Read, W: Write, F: Write>(
+    execution: &Execution<'x, '_, T>,
+    devices: &mut Devices<R, W, F, LiveStore<'x>>,
+) -> Result<bool, u8>
+    requires reader { HasFailed devices.old.reader → ⊥ }
+    requires writer { HasFailed devices.old.outputs.writer → ⊥ }
+    ensures reader { OnOk result (HasFailed devices.new.reader → ⊥) }
+    ensures writer { OnOk result (HasFailed devices.new.outputs.writer → ⊥) }
+    ensures fault { IfErr result (λ code. code ≢ 0) }
+    ensures taken { IfOk result (λ taken. NamesFile execution.now.opened.now.loaded →
+        Leads (store_of devices.old.outputs.keeper) (store_of devices.new.outputs.keeper)
+        (TakesBack taken)) }
+{
+    let is_cut = is_cut_in(execution.rt.alloc(), devices);
+    taken_back(execution, is_cut, devices)
 }
 
 /// Undoes what was cut short, if an undo takes it back without crossing a border. Returns true if
@@ -74,12 +110,43 @@ pub(crate) fn inside_taken_back<'x, T: Threads + Wait + Sync, R: Read, W: Write,
     requires writer { HasFailed devices.old.outputs.writer → ⊥ }
     ensures reader { OnOk result (HasFailed devices.new.reader → ⊥) }
     ensures writer { OnOk result (HasFailed devices.new.outputs.writer → ⊥) }
+    ensures fault { IfErr result (λ code. code ≢ 0) }
+    ensures taken { IfOk result (λ taken. NamesFile execution.now.opened.now.loaded →
+        Leads (store_of devices.old.outputs.keeper) (store_of devices.new.outputs.keeper)
+        (TakesBackInside taken)) }
 {
-    let is_cut = match devices.outputs.keeper.store.history() {
-        Some(history) => goes_back_inside(execution.rt.alloc(), history),
-        None => Ok(false),
-    };
+    let is_cut = is_cut_inside(execution.rt.alloc(), devices);
     taken_back(execution, is_cut, devices)
+}
+
+// Returns true if an undo goes on from where the history stands, if there is one.
+fn is_cut_in<R, W, F>(
+    alloc: Global,
+    devices: &Devices<R, W, F, LiveStore<'_>>,
+) -> Result<bool, HistoryFault>
+    ensures { IfOk result (λ goes. (was : List ℕ) →
+        history_held (store_of devices.now.outputs.keeper) ≡ Some was → GoesOn false was goes) }
+{
+    match devices.outputs.keeper.store.history() {
+        Some(history) => goes_on_behind(alloc, history, false),
+        None => Ok(false),
+    }
+}
+
+// Returns true if an undo from the passed state on which the history stands ends in the present
+// generation, if there is a history.
+fn is_cut_inside<R, W, F>(
+    alloc: Global,
+    devices: &Devices<R, W, F, LiveStore<'_>>,
+) -> Result<bool, HistoryFault>
+    ensures { IfOk result (λ goes. (was : List ℕ) →
+        history_held (store_of devices.now.outputs.keeper) ≡ Some was →
+        GoesBackInside was goes) }
+{
+    match devices.outputs.keeper.store.history() {
+        Some(history) => goes_back_inside(alloc, history),
+        None => Ok(false),
+    }
 }
 
 // Undoes what was cut short, if something was. Returns true if it was, or the status of an undo
@@ -93,6 +160,11 @@ fn taken_back<'x, T: Threads + Wait + Sync, R: Read, W: Write, F: Write>(
     requires writer { HasFailed devices.old.outputs.writer → ⊥ }
     ensures reader { OnOk result (HasFailed devices.new.reader → ⊥) }
     ensures writer { OnOk result (HasFailed devices.new.outputs.writer → ⊥) }
+    ensures cut { IfOk result (λ taken. is_cut ≡ Ok taken) }
+    ensures fault { IfErr result (λ code. code ≢ 0) }
+    ensures taken { IfOk result (λ taken. NamesFile execution.now.opened.now.loaded →
+        Leads (store_of devices.old.outputs.keeper) (store_of devices.new.outputs.keeper)
+        (IsTaken taken)) }
 {
     match is_cut {
         Ok(true) => {}
@@ -103,10 +175,9 @@ fn taken_back<'x, T: Threads + Wait + Sync, R: Read, W: Write, F: Write>(
         is_on: false,
         limit: u32::MAX,
     };
-    let code = travel(execution, way, devices);
-    devices.outputs.keeper.store.keep_as(Keeping::Step);
-    if code != DONE {
-        return Err(code);
+    match travel(execution, way, devices) {
+        DONE => {}
+        code => return Err(code),
     }
     if devices.reader.failed() || devices.outputs.writer.failed() {
         return Err(FAILED);
@@ -122,12 +193,14 @@ fn serve_restart<'x, T: Threads + Wait + Sync, R: Read, W: Write, F: Write>(
 ) -> u8
     requires reader { HasFailed devices.old.reader → ⊥ }
     requires writer { HasFailed devices.old.outputs.writer → ⊥ }
+    ensures done { result ≡ 0 → NamesFile execution.now.opened.now.loaded →
+        Leads (store_of devices.old.outputs.keeper) (store_of devices.new.outputs.keeper)
+        (Restarts (map string_bytes request.now.names.items)) }
 {
+    devices.outputs.keeper.store.begin_steps();
     match texts_in(execution.rt.alloc(), devices) {
         Some(Ok(texts)) => {
-            let service = Service::Restart(&request.names);
-            let live = LiveFile::Text(&texts.session);
-            let code = serve_on(execution, service, &texts.database, live, devices);
+            let code = restart_on(execution, request, &texts, devices);
             drop(texts);
             code
         }
@@ -136,42 +209,106 @@ fn serve_restart<'x, T: Threads + Wait + Sync, R: Read, W: Write, F: Write>(
     }
 }
 
-// Carries the session over to the new database, and returns the status. If the history stands in
-// that database already, and there are no conversions, it is not entered.
-fn carry_over<'x, T: Threads + Wait + Sync, R: Read, W: Write, F: Write>(
+// Serves a restart on the texts of the present generation, and returns the status.
+fn restart_on<'x, T: Threads + Wait + Sync, R: Read, W: Write, F: Write>(
     execution: &Execution<'x, '_, T>,
-    request: &UpdateRequest<'_>,
+    request: &NamedRequest<'_>,
+    texts: &Texts,
     devices: &mut Devices<R, W, F, LiveStore<'x>>,
 ) -> u8
     requires reader { HasFailed devices.old.reader → ⊥ }
     requires writer { HasFailed devices.old.outputs.writer → ⊥ }
+    ensures done { result ≡ 0 → NamesFile execution.now.opened.now.loaded →
+        (was : List ℕ) → HoldsFor None (store_of devices.old.outputs.keeper) was →
+        IsPresent was texts.now.database.items texts.now.session.items →
+        LeadsOn was (store_of devices.new.outputs.keeper)
+        (Restarts (map string_bytes request.now.names.items)) }
 {
-    let Some(texts) = texts_in(execution.rt.alloc(), devices) else {
-        let opened = execution.opened;
-        let base = bytes_of(&opened.loaded.base);
-        let code = serve_update(execution, request, base, read_of(opened), devices);
-        return settled(code, devices);
+    let service = Service::Restart(&request.names);
+    let live = LiveFile::Text(&texts.session);
+    serve_on(execution, service, &texts.database, live, devices)
+}
+
+// Carries the session over to the new database, and returns the status.
+fn carry_over<'x, T: Threads + Wait + Sync, R: Read, W: Write, F: Write>(
+    execution: &Execution<'x, '_, T>,
+    request: &'x UpdateRequest<'x>,
+    devices: &mut Devices<R, W, F, LiveStore<'x>>,
+) -> u8
+    requires reader { HasFailed devices.old.reader → ⊥ }
+    requires writer { HasFailed devices.old.outputs.writer → ⊥ }
+    ensures done { result ≡ 0 → IsKeptUpdate request.now →
+        Leads (store_of devices.old.outputs.keeper) (store_of devices.new.outputs.keeper)
+        (CarriesBy (bytes_of execution.now.opened.now.loaded.new)
+        (conversions_of request.now.conversions.items)) }
+{
+    let opened = execution.opened;
+    let Some(new) = opened.new_base() else {
+        return fail_on(b"Strange", devices);
     };
-    let Ok(texts) = texts else {
-        return fail_on(b"Memory", devices);
-    };
-    let is_same = match execution.opened.new_base() {
-        Some(new) => new.bytes() == texts.database.as_slice(),
-        None => false,
-    };
-    if is_same && request.conversions.is_empty() {
-        drop(texts);
+    devices
+        .outputs
+        .keeper
+        .store
+        .begin_update(new, &request.conversions);
+    match texts_in(execution.rt.alloc(), devices) {
+        Some(Ok(texts)) => {
+            let code = carry_texts(execution, request, &texts.database, &texts.session, devices);
+            drop(texts);
+            code
+        }
+        Some(Err(_)) => fail_on(b"Memory", devices),
+        None => {
+            let base = bytes_of(&opened.loaded.base);
+            let code = serve_update(execution, request, base, read_of(opened), devices);
+            settled(code, devices)
+        }
+    }
+}
+
+// Carries the texts of the present generation over to the new database, and returns the status. If
+// it is their database already, and there are no conversions, it is not entered.
+fn carry_texts<'x, T: Threads + Wait + Sync, R: Read, W: Write, F: Write>(
+    execution: &Execution<'x, '_, T>,
+    request: &UpdateRequest<'_>,
+    database: &[u8],
+    session: &[u8],
+    devices: &mut Devices<R, W, F, LiveStore<'x>>,
+) -> u8
+    requires writer { HasFailed devices.old.outputs.writer → ⊥ }
+    ensures done { result ≡ 0 → IsKeptUpdate request.now →
+        IsToUpdate (bytes_of execution.now.opened.now.loaded.new)
+        (conversions_of request.now.conversions.items) (store_of devices.old.outputs.keeper) →
+        (was : List ℕ) → history_held (store_of devices.old.outputs.keeper) ≡ Some was →
+        IsPresent was database.now session.now →
+        LeadsOn was (store_of devices.new.outputs.keeper)
+        (CarriesBy (bytes_of execution.now.opened.now.loaded.new)
+        (conversions_of request.now.conversions.items)) }
+{
+    if is_up_to_date(execution.opened, request.conversions.as_slice(), database) {
         return say_done(b"ok\nok\n", devices);
     }
-    let live = LiveFile::Text(&texts.session);
-    let code = serve_update(execution, request, &texts.database, live, devices);
-    drop(texts);
+    let live = LiveFile::Text(session);
+    let code = serve_update(execution, request, database, live, devices);
     settled(code, devices)
+}
+
+// Returns true if a database is the new one of an update, and there are no conversions.
+fn is_up_to_date(opened: &Opened<'_>, list: &[Conversion<'_>], database: &[u8]) -> bool
+    ensures list { IsTrue result → length list.now ≡ 0 }
+    ensures new { IsTrue result → bytes_of opened.now.loaded.new ≡ database.now }
+{
+    list.is_empty() && bytes_of(&opened.loaded.new) == database
 }
 
 // Turns the state to which a command of several steps has come into a stop, if all is done. Returns
 // the status.
-fn settled<R, W, F: Write>(code: u8, devices: &mut Devices<R, W, F, LiveStore<'_>>) -> u8 {
+fn settled<R, W, F: Write>(code: u8, devices: &mut Devices<R, W, F, LiveStore<'_>>) -> u8
+    ensures code { result ≡ 0 → code ≡ 0 }
+    ensures done { result ≡ 0 →
+        Leads (store_of devices.old.outputs.keeper) (store_of devices.new.outputs.keeper)
+        IsSettled }
+{
     if code != DONE {
         return code;
     }
@@ -185,13 +322,22 @@ fn settled<R, W, F: Write>(code: u8, devices: &mut Devices<R, W, F, LiveStore<'_
 pub(crate) fn texts_in<R, W, F>(
     alloc: Global,
     devices: &Devices<R, W, F, LiveStore<'_>>,
-) -> Option<Result<Texts, HistoryFault>> {
+) -> Option<Result<Texts, HistoryFault>>
+    ensures present { IfSome result (λ made. IfOk made (λ texts. (was : List ℕ) →
+        history_held (store_of devices.now.outputs.keeper) ≡ Some was →
+        IsPresent was texts.database.items texts.session.items)) }
+    ensures none { result ≡ None →
+        history_held (store_of devices.now.outputs.keeper) ≡ None }
+{
     let history = devices.outputs.keeper.store.history()?;
     Some(texts_of(alloc, history))
 }
 
 // Returns the texts of the present generation of a history.
-fn texts_of(alloc: Global, history: &[u8]) -> Result<Texts, HistoryFault> {
+fn texts_of(alloc: Global, history: &[u8]) -> Result<Texts, HistoryFault>
+    ensures { IfOk result (λ texts.
+        IsPresent history.now texts.database.items texts.session.items) }
+{
     let present = present_of(alloc, history)?;
     let Ok(database) = Vec::from_slice(alloc, present.database) else {
         return Err(HistoryFault::Memory);

@@ -1,0 +1,12 @@
+use Rattle.rc_launch.specs.TwoSteps.{GoesBackInside}
+use Rattle.rc_cli.specs.Storing.{store_of}
+use Rattle.rc_launch.specs.Loading.{NamesFile}
+use Rattle.rc_launch.proofs.StepLemmas.{taken_by}
+use Rattle.rc_launch.proofs.two_steps.inside_taken_back.Goals as goal
+
+pub returns-clause-taken : goal.returns-clause-taken
+returns-clause-taken g c =
+    taken_by c.taken_back.result c.is_cut_inside-is_cut.result
+    (NamesFile c.args.execution.now.opened.now.loaded) (GoesBackInside)
+    (store_of c.args.devices.now.outputs.keeper) (store_of c.taken_back.new.devices.outputs.keeper)
+    c.taken_back.ensures.cut c.is_cut_inside-is_cut.ensures c.taken_back.ensures.taken
