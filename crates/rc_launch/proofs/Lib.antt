@@ -29,3 +29,23 @@ mod MendLemmas
 mod StepLemmas
 -- The texts of a session and of its database that were read.
 mod ReadLemmas
+-- The present generation of a history, and that of one in which a session was put.
+mod PutTexts
+-- What recoveries of a history leave.
+mod HistoryEnds
+-- The writes of several steps, one after the other.
+mod Writing
+-- What a crash of a command on a history leaves.
+mod HistoryCrashed
+-- A change that moves nothing is always done.
+mod StillChange
+-- A line after a change that moved something, and the line before that.
+mod GrownLines
+-- One undo takes a change back that is kept in a history.
+mod UndoneOnce
+-- The present generation of a history that is given, and of one that an update has entered.
+mod GivenPlaces
+-- A crash within the writes of an update.
+mod CrashedUpdates
+-- A crash within the writes of an undo or a redo.
+mod CrashedWays

@@ -11,6 +11,14 @@ pub mod Logs
 pub mod Held
 -- What the command of a run log has done to the states of the session.
 pub mod Keeping
+-- What recoveries make of a history and of the run log beside it.
+pub mod HistoryRecoveries
+-- A crash of a run on the present session of a history.
+pub mod HistoryCrashes
+-- The writes of an update, and what one undo restores after a crash within them.
+pub mod UpdateCrashes
+-- The writes of an undo or a redo on a history, and what a crash within them leaves.
+pub mod WayCrashes
 -- What a controller says of the transitions that were under way when a command was cut short.
 pub mod Asking
 -- What came of a run log beside the file of a session that is locked.

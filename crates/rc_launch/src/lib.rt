@@ -7,6 +7,7 @@
 mod asking;
 mod borders;
 mod carrying_out;
+pub mod crash_laws;
 mod execution;
 mod fault;
 pub mod frontend;
