@@ -32,11 +32,12 @@ def block(text):
     return rest[:length], rest[length:]
 
 
-def standing(text):
-    """The present database of a history, and whether an undo goes on from the state on which it stands; None of a live
-    text alone."""
-    if not text.startswith(b"undorc-history "):
-        return None
+def is_history(text):
+    return text.startswith(b"undorc-history ")
+
+
+def present(text):
+    """The marks of the present generation of a history, its database and its session."""
     rest = text.split(b"\n", 2)[2]
     for _number in range(int(text.split(b"\n", 2)[1].split()[1]) + 1):
         marks, rest = rest.split(b"\n", 1)
@@ -44,6 +45,20 @@ def standing(text):
         session, rest = block(rest)
         count = int(rest.split(b"\n", 1)[0].split()[1])
         rest = rest.split(b"\n", count + 1)[count + 1]
+    return marks, database, session
+
+
+def session_of(text):
+    """The text of the session in the file of a session."""
+    return present(text)[2] if is_history(text) else text
+
+
+def standing(text):
+    """The present database of a history, and whether an undo goes on from the state on which it stands; None of a live
+    text alone."""
+    if not is_history(text):
+        return None
+    marks, database, session = present(text)
     states = [line.split()[0] for line in session.splitlines() if line.split()[0] in (b"up", b"now")]
     first, last = (mark == b"passed" for mark in marks.split()[1:])
     return database, first and states[0] == b"now" or last and states[-1] == b"now"

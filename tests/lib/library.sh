@@ -236,6 +236,42 @@ three_scripts() {
     rm -r tree
 }
 
+# session_text FILE: the text of the session in FILE: of a history that of the present one
+session_text() {
+    LC_ALL=C awk 'NR == 2 && $1 == "at" { place = $2 }
+        /^undorc-live / { found++ }
+        found == place + 1 { print }
+        found == place + 1 && /^end$/ { exit }' "$1"
+}
+
+# history_of MARK FILE: a history of the database `base` alone with the session of FILE, whose first state is one to stop at,
+# and whose last state has this mark
+history_of() {
+    session_text "$2" > session.part
+    printf 'undorc-history 1\nat 0 of 1\ngeneration stop %s\ndatabase %d\n' "$1" "$(wc -c < base)"
+    cat base
+    printf 'session %d\n' "$(wc -c < session.part)"
+    cat session.part
+    printf 'renames 0\nend\n'
+    rm session.part
+}
+
+# makes_plain FILE: makes FILE the text of its session alone, as `session` writes it
+makes_plain() {
+    session_text "$1" > "$1.text"
+    cat "$1.text" > "$1"
+    rm "$1.text"
+}
+
+# first_line_is FILE LINE: the first line of FILE is LINE
+first_line_is() {
+    wants "$2\\n" ''
+    head -n 1 "$1" > out
+    : > err
+    echo 0 > status
+    judge "the first line of $1" 0
+}
+
 # skip WHAT: a row, or rows of one kind, that can't be run here; `.ci/run` lets none through
 skip() {
     skipped=$((skipped + 1))

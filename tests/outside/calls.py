@@ -4,8 +4,8 @@ makes of it.
 
     tests/outside/calls.py PROGRAM [--all] [NAME..]
 
-Scripts of six services record what they did. A change, an undo, a restart, an update, and an undo and a redo of an
-update are run under strace, again and again. In each run one call fails, or the program is killed there. So is the
+Scripts of six services record what they did. A change, one on a FILE without a database, an undo, a restart, an
+update, and an undo and a redo of an update are run under strace, again and again. In each run one call fails, or the program is killed there. So is the
 recovery of each of these after a kill. Then the next command enters what was moved. FILE agrees with what the scripts
 recorded, but for what was under way; what is live is closed; nothing but FILE.failed and FILE.log is left. An undo, and in another run the
 same command, end where they are to end. A command that says that all is done has done it.
@@ -25,7 +25,7 @@ import tempfile
 
 sys.dont_write_bytecode = True
 sys.path.insert(0, os.path.join(os.path.dirname(os.path.realpath(__file__)), "..", "lib"))
-from cuts import Wrong, adopt_orphans, read, recorded, standing, under_way, wait_for_orphans
+from cuts import Wrong, adopt_orphans, read, recorded, session_of, standing, under_way, wait_for_orphans
 
 # The errors of each call, of which the first one is always tried.
 ERRORS = {
@@ -68,6 +68,7 @@ MAKES = [["change", "a", "d"], ["change", "c"], ["update", "-B", "two"]]
 # Each command, how many commands of these stand before it, whether one of them was undone, and the place where it ends.
 COMMANDS = {
     "change": (["change", "c"], 1, False, 2),
+    "change-plain": (["change", "c"], 1, False, 2),
     "undo": (["undo"], 2, False, 1),
     "restart": (["restart", "b"], 2, False, 2),
     "update": (["update", "-B", "two"], 2, False, 3),
@@ -181,6 +182,9 @@ class Situation:
             if said.status != 0:
                 raise Wrong(f"{words}: {said.out}{said.err}")
         self.start = bench.files()
+        # The text of a session alone, as `session` makes it: the command makes it a history.
+        if name.endswith("-plain"):
+            self.start[0]["live"] = session_of(self.start[0]["live"])
 
     def begin(self):
         self.bench.put(*self.start)

@@ -4,12 +4,12 @@
     tests/outside/kills.py PROGRAM [ROUNDS [SEED]]
 
 Scripts of 40 services record what they did. Each round begins a change, an undo, a redo, an update, a restart, or a
-session of three lines, and kills it, or the recovery of an earlier one, at a random moment. The next command waits
-for the scripts that still run: no two of one service run at once. After it the file of the session agrees with what the
-scripts recorded, but for what was under way; what is live is closed; nothing is refused as unfit; and an undo takes the
-entry back. An update or a restart that was killed is now and then given again,
-which leaves up what it found up; or it is undone, which restores that and the database. The last line is
-'N passed, M failed'.
+session of three lines, and kills it, or the recovery of an earlier one, at a random moment. Now and then FILE is made a
+text without a database before that. The next command waits for the scripts that still run: no two of one service run at
+once. After it the file of the session agrees with what the scripts recorded, but for what was under way; what is live is
+closed; nothing is refused as unfit; and an undo takes the entry back. An update or a restart that was killed is now and
+then given again, which leaves up what it found up; or it is undone, which restores that and the database. The last line
+is 'N passed, M failed'.
 """
 
 import os
@@ -22,7 +22,7 @@ import time
 
 sys.dont_write_bytecode = True
 sys.path.insert(0, os.path.join(os.path.dirname(os.path.realpath(__file__)), "..", "lib"))
-from cuts import Wrong, adopt_orphans, read, recorded, standing, under_way, wait_for_orphans
+from cuts import Wrong, adopt_orphans, is_history, read, recorded, session_of, standing, under_way, wait_for_orphans
 
 SERVICES = 40
 KILLS = [signal.SIGKILL, signal.SIGKILL, signal.SIGTERM, signal.SIGINT]
@@ -91,6 +91,13 @@ class Machine:
             if read(base) == found[0]:
                 return base, found[1]
         raise Wrong("the database of the session is none of both")
+
+    def make_plain(self):
+        """The file of the session has its text alone, as `session` makes it. Its database is the one that is named."""
+        self.base, text = self.present(), read(self.live_file)
+        if is_history(text):
+            with open(self.live_file, "wb") as file:
+                file.write(session_of(text))
 
     def environment(self):
         return dict(os.environ, UNDORC_DB=self.base, UNDORC_LIVE=self.live_file)
@@ -228,6 +235,8 @@ def take_back(machine, base, before):
 
 def round_of(machine):
     """One command that is killed, and the next one; returns whether it was recovered."""
+    if machine.draw.random() < 0.15:
+        machine.make_plain()
     words, lines = command(machine)
     before = machine.live()
     text = read(machine.live_file)
@@ -262,8 +271,7 @@ def round_of(machine):
         undo(machine, before)
     if words[0] == "restart" and not is_passed and machine.live() != before and machine.draw.random() < 0.5:
         undo(machine, before)
-    was_history = text.startswith(b"undorc-history ")
-    if words[0] == "update" and was_history and not is_passed and read(machine.live_file) != text and machine.draw.random() < 0.6:
+    if words[0] == "update" and is_history(text) and not is_passed and read(machine.live_file) != text and machine.draw.random() < 0.6:
         take_back(machine, base, before)
     return is_entered
 

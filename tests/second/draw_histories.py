@@ -3,7 +3,7 @@
 import copy
 
 import plans
-from case import EDITS, LOOKS, RUNS, Case
+from case import EDITS, LOOKS, ONE_SHOTS, RUNS, Case
 from database import read, text_of
 from draw import NAMES, Drawer
 from histories import history_of
@@ -66,6 +66,8 @@ class HistoryDrawer(Drawer):
         case.base, case.keeps, case.kept = history.now().text, True, kept
         if not history.is_plain and self.one_in(12):
             case.base = self.pick(self.texts)
+        # Without -b a command leaves a live text alone as one.
+        case.in_front = history.is_plain and case.word in ONE_SHOTS and self.one_in(2)
         self.filled(case, base)
         return case
 

@@ -68,7 +68,8 @@ def read_live(base, text):
 
 
 def begun(case, answer):
-    """The history with which a session begins, and the rest of the input. The database is that of the history."""
+    """The history with which a session begins, and the rest of the input. The database is that of the history. A command
+    that writes makes a live text alone a history with the database of -b; a session does not."""
     if histories.is_history(case.kept):
         history = histories.read(case.kept)
         if case.base != history.now().text:
@@ -80,7 +81,9 @@ def begun(case, answer):
         return history, case.input
     base, text = base_and_input(case)
     first_missing([base], case.failing)
-    return histories.plain(base, case.base, live.begun(base, case.kept, case.bound)), text
+    history = histories.plain(base, case.base, live.begun(base, case.kept, case.bound))
+    history.is_plain = case.word == "session" or case.in_front or not case.locks
+    return history, text
 
 
 def session(case, answer):
@@ -152,7 +155,6 @@ def restart(case, answer):
     """What is named and up goes down, with all that needs it, and an undo brings it back. What was cut short is taken back
     before. What was down stays down, which is said."""
     history, _ = begun(case, answer)
-    history.is_plain = False
     were_down = [name for name in case.words if case.kept is None or is_down(history, name)]
     do_one = doing(case, answer)
     is_taken = history.is_cut_inside()

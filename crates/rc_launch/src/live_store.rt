@@ -24,7 +24,7 @@ use crate::texts::FileText;
 use crate::tried_lock::TriedLock;
 use rc_args::{Making, Once, SessionCommand};
 use rc_cli::sessions::{KeptText, Store, keep_fault};
-use rc_historytext::{Framed, HistoryFault, Keeping, cross_border, present_of, settle_state};
+use rc_historytext::{Framed, HistoryFault, Keeping, cross_border, settle_state};
 use rc_script::SessionLine;
 use rc_serve::KeepFault;
 use rc_session::Command;
@@ -70,8 +70,6 @@ pub struct LiveStore<'a> {
     frame: Frame<'a>,
     /// What the command does to the states of the session.
     keeping: Keeping,
-    /// Whether the file has the present session of the history alone.
-    is_bare: bool,
     /// Whether the session of one line is kept, in the history as it was before that line.
     is_of_line: bool,
     /// Where an update leads, and whether it has come there.
@@ -112,7 +110,6 @@ impl<'a> LiveStore<'a> {
             lock,
             frame: Frame::Alone(None),
             keeping: Keeping::Command,
-            is_bare: false,
             is_of_line: false,
             next: None,
             is_entering: false,
@@ -135,7 +132,6 @@ impl<'a> LiveStore<'a> {
             lock,
             frame: _,
             keeping: _,
-            is_bare: _,
             is_of_line: _,
             next: _,
             is_entering: _,
@@ -149,7 +145,6 @@ impl<'a> LiveStore<'a> {
                 lock,
                 frame,
                 keeping: keeping_of(opened.command()),
-                is_bare: is_bare(opened),
                 is_of_line: false,
                 next: next_of(opened),
                 is_entering: false,
@@ -322,21 +317,10 @@ impl<'a> LiveStore<'a> {
             return probe(self.rt, self.path);
         }
         let _ = give_room(self.rt, self.path);
-        if self.is_bare {
-            return self.write_present(whole);
-        }
         if let Some(source) = self.source {
             self.narrow(source)?;
         }
         replace(self.rt, self.path, whole)
-    }
-
-    // Writes the present session of a history into the file, alone.
-    fn write_present(&self, whole: &[u8]) -> io::Result<()> {
-        match present_of(self.rt.alloc(), whole) {
-            Ok(present) => replace(self.rt, self.path, present.session),
-            Err(fault) => Err(history_error(fault)),
-        }
     }
 
     // Removes from the file those rights to read that the file of a database does not give, since
@@ -579,8 +563,9 @@ fn history_error(fault: HistoryFault) -> io::Error {
 }
 
 // Returns the frame in which the session of a command is kept: the history of its file, or a new
-// history with the database of the command if one of two steps begins one, or if the command goes
-// back to a state. The latter stands nowhere.
+// history with the database of the command. If the command goes back to a state, the session that
+// was read stands in that. A command that serves lines keeps a session alone that was kept so, and
+// so does one that reads its database from the input.
 fn frame_of<'a>(alloc: Global, opened: &'a Opened<'_>) -> Result<Frame<'a>, AllocError>
     ensures { IfOk result (IsFrameOf opened.now) }
 {
@@ -592,16 +577,11 @@ fn frame_of<'a>(alloc: Global, opened: &'a Opened<'_>) -> Result<Frame<'a>, Allo
         };
     }
     match (opened.command(), opened.base()) {
-        (SessionCommand::Update(_) | SessionCommand::Restart(_), Some(base)) => {
-            Ok(Frame::Begins(base.bytes()))
-        }
-        (SessionCommand::Check(request), Some(base)) if request.repairs => {
-            Ok(Frame::Begins(base.bytes()))
-        }
         (SessionCommand::Line(request), Some(base)) if request.to.is_some() => {
             frame_back(alloc, base.bytes(), opened.live().bytes())
         }
-        _ => Ok(Frame::Alone(opened.live().bytes())),
+        (SessionCommand::Lines(_), _) | (_, None) => Ok(Frame::Alone(opened.live().bytes())),
+        (_, Some(base)) => Ok(Frame::Begins(base.bytes())),
     }
 }
 
@@ -620,14 +600,6 @@ fn frame_back<'a>(
     match Framed::begun(alloc, database, session, Keeping::Way) {
         Ok(begun) => Ok(Frame::History(begun)),
         Err(_) => Err(AllocError),
-    }
-}
-
-// Returns true if a command goes back to a state of a session that is kept alone.
-fn is_bare(opened: &Opened<'_>) -> bool {
-    match (opened.command(), opened.live().history()) {
-        (SessionCommand::Line(request), None) => request.to.is_some(),
-        _ => false,
     }
 }
 

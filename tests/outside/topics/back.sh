@@ -71,9 +71,30 @@ leaves_alone 1 '' 'undorc: NoController db\n' --to 1
 goes_back 2 'lowered root\nok\nraised root\nok\n' 'undorc: NoController db\n' --to 2 -q
 
 # What is wrong with the texts is told first. No file: nothing is up, and there is one state.
-cp four live
+session_text four > live
 database=other leaves_alone 1 '' 'undorc: OtherDb\n' --to 4 -x none
 database=live leaves_alone 1 '' 'undorc: Bad 0\n' --to 4 -x none
+# A history has its own database, whatever -b names.
+cp four live
+not_base() {
+    printf 'undorc: %s is not the database of this session: undorc update -b %s -l live -B %s carries it over' "$1" "$1" "$1"
+}
+database=other leaves_alone 0 'ok\n' "$(not_base other)\n" --to 4 -x none
+database=live leaves_alone 0 'ok\n' "$(not_base live)\n" --to 4 -x none
+database=other goes_back 0 'lowered db log net web\nok\n' "$(not_base other)\n" --to 3 -x none
+# The text of a session becomes a history of one database, with the same states.
+cp four live
+"$program" undo --to 2 -b base -l live -x none > setup
+cp live went
+session_text four > live
+goes_back 0 'lowered db log net web\nok\nraised db net\nok\n' '' --to 2 -x none
+first_line_is live 'undorc-history 1'
+wants '' ''
+cmp live went > out 2>&1 || true
+: > err
+echo 0 > status
+judge 'a session that goes back, and becomes a history' 0
+journal_is "at 2 of 5\n$entries"
 expect 1 '' 'undorc: Bad 0\n' '' undo --to 0 -b base -l base -x none
 rm live
 goes_back 0 'ok\n' '' --to 0 -x none

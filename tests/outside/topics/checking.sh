@@ -154,12 +154,20 @@ rm -f asked
 
 # Refusals of the texts, and wrong command lines.
 "$program" compile "$here/../../contrib/samples" > other 2> setup || printf '%b' "$sample" > other
-expect 1 '' 'undorc: OtherDb\n' '' check -c ./ctl -b other -l live
+session_text live > plain
+expect 1 '' 'undorc: OtherDb\n' '' check -c ./ctl -b other -l plain
 expect 1 '' 'undorc: Bad 0\n' '' check -c ./ctl -b live -l made
 mkdir folder
 expect 111 '' 'undorc: Io\n' '' check -c ./ctl -b made -l folder
-expect 111 '' 'undorc: Io\n' '' check -c ./ctl -b nowhere -l live
+expect 111 '' 'undorc: Io\n' '' check -c ./ctl -b nowhere -l plain
 asked_of
+# FILE is a history: its own database counts.
+told='undorc: other is not the database of this session: undorc update -b other -l live -B other carries it over\n'
+expect 0 '' "$told" '' check web -c ./ctl -b other -l live
+asked_of web
+expect 0 '' '' '' check web -c ./ctl -b nowhere -l live
+asked_of web
+rm -f asked
 wrong check
 wrong check -b made
 wrong check -l live web
@@ -198,7 +206,7 @@ expect 0 '' '' '' check -c ./ctl -b made -l live
 chmod 644 live
 
 # The log of a command that was killed is said and not entered; that of one that is under way is said, too.
-cp live live.run
+session_text live > live.run
 printf -- '-t 1 -D change web\ntake 1 web\ndone 1 web ok\n' >> live.run
 cp live.run run.was
 cut='undorc: a command was cut short: the next one enters what it has moved\n'

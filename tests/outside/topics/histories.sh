@@ -110,6 +110,37 @@ does 0 'lowered c\nok\n' 'down c one\n' undo -b one.db
 told="$(not_of_session two.db)\n"
 does 0 'a up\nb up\nc down\n' '' status -b two.db
 
+# From the first command on FILE has its database. One of the same services with other dependencies and scripts, which
+# replaces the file of -b, is told of and not used; an update takes it, and one undo takes that back.
+told=''
+mv live kept.live
+tree_service late a
+tree_service late b
+tree_service late c b
+cp one.db kept.db
+does 0 'raised a b\nok\n' 'up a one\nup b one\n' change b -b one.db
+places 'at 0 of 1\ngeneration stop stop\n'
+"$program" compile -o one.db late
+told="$(not_of_session one.db)\n"
+does 0 'raise c\nok\n' '' change -n c -b one.db
+told="$(not_of_session one.db)\n"
+does 0 'lowered a b\nok\n' 'down a one\ndown b one\n' change -d a -b one.db
+told="$(not_of_session one.db)\n"
+does 0 'raised a b\nok\n' 'up a one\nup b one\n' undo -b one.db
+told="$(not_of_session one.db)\n"
+does 0 'raised c\nok\n' 'up c one\n' change c -b one.db
+told="$(not_of_session one.db)\n"
+does 0 'lowered c\nok\n' 'down c one\n' undo -b one.db
+does 0 'lowered b\nok\nraised b\nok\n' 'down b one\nup b late\n' update -b kept.db -B one.db
+does 0 'raised c\nok\n' 'up c late\n' change c -b one.db
+does 0 'lowered c\nok\n' 'down c late\n' undo -b one.db
+does 0 'lowered b\nok\nraised b\nok\n' 'down b late\nup b one\n' undo -b one.db
+cp kept.db one.db
+stands_on one ' a b'
+does 0 'lowered a b\nok\n' 'down a one\ndown b one\n' change -d a -b one.db
+mv kept.live live
+rm kept.db
+
 # A picture shows the database of the session, and what is up.
 "$program" db -l live dot > out
 grep -c 'style=filled' out > filled

@@ -44,7 +44,7 @@ failing 12 '' STARTS once 'scripts lost'
 failing 12 '' STARTS good 'scripts lost'
 
 # One-shot commands on the same file: a session of the one line says what they are to come to, or of those
-# that have none what they write where nothing fails.
+# that have none what they write where nothing fails. The text of a session becomes a history before anything moves.
 one_shot_over() {
     command=$1 shown=$2
     printf '%s\n' "$shown" > in
@@ -53,16 +53,25 @@ one_shot_over() {
         # shellcheck disable=SC2086
         "$program" $command -l text.none.0 > whole.none
         cp text.none.0 text.none.1
+    elif [ "$(head -n 1 text.none.0)" = 'undorc-live 2' ]; then
+        history_of stop text.none.0 > text.none.0.then
+        history_of stop text.none.1 > made
+        mv made text.none.1
     fi
     failing "$3" "$io" FILES once faults=Io
     failing "$3" "$io" FILES good faults=Io
     failing 3 '111 undorc: Write\n' WRITES 'piece 5 good' faults=Write
+    rm -f text.none.0.then
 }
 printf '%s\n' 'change a c' 'change b' undo > in
 rm text.* whole.*
 begins_at session -b base -x none
 one_shot_over 'change b -b base -x none' 'change b' 20
 one_shot_over 'undo -b base -x none -w 1' undo 20
+mv text.none.0 plain
+history_of stop plain > text.none.0
+one_shot_over 'change b -b base -x none' 'change b' 20
+mv plain text.none.0
 one_shot_over 'undo -n -b base' '' 5
 one_shot_over 'redo -n -b base' '' 5
 

@@ -178,7 +178,8 @@ expects none
 each 200 "$ample$memory" 'answers kept fresh' session -b base -n 3
 
 # One-shot commands on a file: as a session of the one line, or, of those that only show something and
-# have no line, as what they write where nothing is refused, with the file left alone.
+# have no line, as what they write where nothing is refused, with the file left alone. The text of a session becomes a
+# history before anything moves.
 one_shot() {
     shown=$1
     shift
@@ -188,13 +189,22 @@ one_shot() {
     if [ -z "$shown" ]; then
         "$program" "$@" -b base -l text.none.0 > whole.none
         cp text.none.0 text.none.1
+    elif [ "$(head -n 1 text.none.0)" = 'undorc-live 2' ]; then
+        history_of stop text.none.0 > text.none.0.then
+        history_of stop text.none.1 > made
+        mv made text.none.1
     fi
     each $((from > 0 ? 20 : 100)) "$ample$memory" 'answers kept' "$@" -b base
+    rm -f text.none.0.then
 }
 rm text.* whole.*
 printf '%s\n' 'change a c' 'change b' undo > in
 begins_at session -b base -x none
 one_shot 'change b' change b -x down:c,up:c
+mv text.none.0 plain
+history_of stop plain > text.none.0
+one_shot 'change b' change b -x down:c,up:c
+mv plain text.none.0
 one_shot undo undo -x none -w 1
 one_shot '' undo -n
 one_shot '' redo -n
@@ -210,14 +220,6 @@ cp text.none.0 live
 mv live text.none.1
 each $((from > 0 ? 20 : 100)) "$ample$memory" 'answers kept' seal -b base
 
-# begun MARK SESSION: the text of a history of the old database
-begun() {
-    printf 'undorc-history 1\nat 0 of 1\ngeneration stop %s\ndatabase %d\n' "$1" "$(wc -c < base)"
-    cat base
-    printf 'session %d\n' "$(wc -c < "$2")"
-    cat "$2"
-    printf 'renames 0\nend\n'
-}
 # A restart. On file is the text before, alone and in a history; that without the service, which is passed; and that in a
 # history again.
 cp text.none.0 live
@@ -225,8 +227,8 @@ cp text.none.0 live
 mv live text.none.2
 cp text.none.0 live
 "$program" change -D a -b base -x none -l live > made
-begun passed live > text.none.1
-begun stop text.none.0 > text.none.0.then
+history_of passed live > text.none.1
+history_of stop text.none.0 > text.none.0.then
 each $((from > 0 ? 20 : 100)) "$ample$memory" 'answers kept' restart a -b base -x none
 rm text.none.0.then live
 
@@ -261,15 +263,15 @@ sed '/^service b /{n;s/^needs a$/needs/;}' base > new
 for at in 0 1 1.then 2; do
     [ "$at" = 0 ] || cp text.none.0 live
     case $at in
-        0) "$program" change a b c -b base -x none -l live ;;
+        0) "$program" change a b c -b base -x none -l live && makes_plain live ;;
         1) "$program" change -D b -b base -x none -l live ;;
         1.then) "$program" update -b base -B new -x up:b -l live || [ $? -eq 2 ] ;;
         2) "$program" update -b base -B new -x none -l live > whole.none ;;
     esac > made
     cp live "text.none.$at"
 done
-begun stop text.none.0 > text.none.0.then
-begun passed text.none.1 > live
+history_of stop text.none.0 > text.none.0.then
+history_of passed text.none.1 > live
 mv live text.none.1
 sed 's/^generation passed stop$/generation passed passed/' text.none.2 > text.none.2.then
 each 200 "$ample$memory" 'answers kept' update -b base -B new -x none

@@ -378,6 +378,7 @@ done
 
 # The file of a session that is none: not taken for the database, nor the database for it.
 "$program" change web disk -b db -x none -l state > out
+makes_plain state
 for text in '' 'notes' ; do
     printf '%s' "$text" > other
     helps 1 'undorc: Bad 0\n' 'no file of a session' -- live -b db -l other

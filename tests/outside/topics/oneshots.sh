@@ -151,6 +151,68 @@ echo first > broken/second/dependencies
 "$program" compile broken > broken.db
 expect 2 'failed first\nblocked second\nok\n' '' '' change second -b broken.db -l broken.live
 
+# The first command that writes makes FILE a history of one database, that of -b, with the session that `session` makes of
+# its line. `session` keeps the text of a session, and so does a command that reads the database from its input.
+# begins_as FORM: FILE is missing, or it is what `session` leaves
+begins_as() {
+    rm -f live other
+    if [ "$1" = plain ]; then
+        printf 'change net\nadd mine net\nchange log\nundo\n' | "$program" session -b base -x none -l live > setup
+        cp live other
+    fi
+}
+# becomes FORM LIST LINE: the command of this line, with -b and without
+becomes() {
+    form=$1 list=$2 line=$3
+    begins_as "$form"
+    printf '%s\n' "$line" | "$program" session -b base -x "$list" -l other > by.line 2> setup
+    ends=0
+    ! grep -q '^failed ' by.line || ends=2
+    ! grep -q '^refused ' by.line || ends=1
+    case $line in add* | delete*) trial= ;; *) trial="-x $list" ;; esac
+    history_of stop other > wanted
+    # Several words stand in one.
+    # shellcheck disable=SC2086
+    for named in '-b base' ''; do
+        begins_as "$form"
+        printf '%s\n' "$line" | "$program" session -b base -x "$list" -l other > by.line 2> setup
+        : > in
+        [ "$named" ] || { cp base in; cp other wanted; }
+        cp by.line out.wanted
+        : > err.wanted
+        runs $line $trial $named -l live
+        cmp -s live wanted || echo 'the file is another' >> err
+        judge "undorc $line $trial $named on a FILE that is $form" "$ends"
+    done
+    first_line_is other 'undorc-live 2'
+}
+mv live kept.live
+for form in missing plain; do
+    for line in 'change net' 'change site' change 'change nobody' undo redo 'add more log' 'delete mine'; do
+        becomes "$form" none "$line"
+    done
+    becomes "$form" up:net 'change net log'
+done
+# So do a seal, a restart, an update and an undo to a state that takes a step.
+for words in seal 'restart net -x none' 'restart nobody -x none' 'update -B base -x none' 'undo --to 1 -x none'; do
+    begins_as plain
+    # shellcheck disable=SC2086
+    "$program" $words -b base -l live > out 2> setup < /dev/null || true
+    first_line_is live 'undorc-history 1'
+done
+# A command that is refused for its texts or its lock, or that moves nothing back, leaves FILE as it is.
+begins_as plain
+expect 1 '' 'undorc: NoState 3\n' '' undo --to 3 -b base -l live -x none
+expect 0 'ok\n' '' '' undo --to 2 -b base -l live -x none
+expect 1 '' 'undorc: Unknown nobody\n' '' change -b base -l live -x up:nobody
+expect 1 'refused Unknown nobody\n' '' '' change -n nobody -b base -l live
+expect 0 'live net root\nok\n' '' '' live -b base -l live
+expect 0 'live net root\nok\n' '' 'live\n' session -b base -l live
+passed=$((passed + 1))
+cmp -s live other || { passed=$((passed - 1)); failed=$((failed + 1)); echo 'FAILED: the text of a session was written'; }
+mv kept.live live
+rm -f other wanted by.line
+
 # With -x and -n a command needs no file, and begins with nothing up; without -b the database is that of the input.
 expect 0 'live\nok\n' 'undorc: missing does not exist: nothing is up\n' '' live -b base -l missing
 expect 0 'down db log net root web\nok\n' 'undorc: missing does not exist: nothing is up\n' "$sample" list -d -l missing
@@ -221,7 +283,10 @@ expect 0 'live net root\nok\n' '' '' live
 expect 1 'refused NothingToUndo\n' '' '' undo -x none
 expect 0 'lowered net root\nok\n' '' '' undo -x none -l live
 expect 0 'live\nok\n' '' 'live\n' session -x none
-expect 1 '' 'undorc: Bad 0\n' '' live -b notes
+session_text live > plain
+expect 1 '' 'undorc: Bad 0\n' '' live -b notes -l plain
+told='undorc: notes is not the database of this session: undorc update -b notes -l live -B notes carries it over\n'
+expect 0 'live\nok\n' "$told" '' live -b notes
 unset UNDORC_LIVE
 expect 0 'live\nok\n' '' '' live -l live
 UNDORC_DB=''

@@ -67,16 +67,22 @@ else
     traced session -b base -x none -l live
     { calls_kept live .; calls_kept live .; echo 'write answer'; calls_kept live .; echo 'write answer'; } > calls.wanted
     ordered 'a session of three lines, and the calls by which it is kept'
+    # The text of a session becomes a history before anything moves. A new file first gets the text of its session.
     : > in
     traced change net -b base -x none -l live
+    { calls_kept live .; calls_kept live .; echo 'write answer'; } > calls.wanted
+    ordered 'a one-shot command that begins a history, and the calls by which it is kept'
+    traced change log -b base -x none -l live
     { calls_kept live .; echo 'write answer'; } > calls.wanted
     ordered 'a one-shot command, and the calls by which it is kept'
     ln -s other/place link
     traced change net -b base -x none -l link
-    { calls_kept other/place other; calls_kept other/place other; echo 'write answer'; } > calls.wanted
+    for turn in 1 2 3; do calls_kept other/place other; done > calls.wanted
+    echo 'write answer' >> calls.wanted
     ordered 'a one-shot command whose file stands behind a link'
     # An update writes it before each answer, too: the history that begins, what is lowered, the new
     # database, and what is raised; and at last that its state is one to stop at.
+    makes_plain live
     sed '/^service net /{n;s/ root$//;}' base > new
     traced update -b base -B new -x none -l live
     {
@@ -88,11 +94,14 @@ else
         echo 'write answer'
         calls_kept live .
     } > calls.wanted
+    ordered 'an update that begins a history, and the calls by which its file is kept'
+    traced update -b new -B base -x none -l live
+    { calls_kept live .; echo 'write answer'; calls_kept live .; calls_kept live .; echo 'write answer'; calls_kept live .; } > calls.wanted
     ordered 'an update, and the calls by which its file is kept'
     traced compile -o db "$samples/source"
     calls_kept db . > calls.wanted
     ordered 'a database, and the calls by which it is written'
-    traced live -b new -l live
+    traced live -b base -l live
     echo 'write answer' > calls.wanted
     ordered 'a look writes nothing'
     # A run is logged before it happens: a take before its program is started, an end before the next take. Before that the
@@ -133,7 +142,7 @@ else
     # A recovery replaces the file, and then removes the log; nothing is started before that.
     "$program" undo -b two -l live < in > /dev/null
     cp live before
-    { cat live; printf -- '-t 1 -u change b\ntake 1 a\ndone 1 a ok\n'; } > live.run
+    { session_text live; printf -- '-t 1 -u change b\ntake 1 a\ndone 1 a ok\n'; } > live.run
     run_logged change b -w 1 -b two -l live
     printf '%s\n' give replace remove room empty head room 'take 1 b' start 'done 1 b ok' give replace empty remove > calls.wanted
     holds 'the recovery is told' grep -qx 'undorc: Recovered' err

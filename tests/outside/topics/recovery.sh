@@ -119,7 +119,7 @@ holds 'room is reserved behind the lines of a log' test "$(tail -c 4000 live.run
 lines_of live.run > whole
 cp live before
 size=$(stat -c %s whole)
-front=$(stat -c %s before)
+front=$(session_text before | wc -c)
 : > states
 for bytes in $(seq "$front" "$size"); do
     cp before live
@@ -166,8 +166,27 @@ expect 0 'live\nok\n' '' 'live\n' session -b base -l fresh -x none
 cp before live
 expect 0 'live\nok\n' '' 'live\n' session -b base -l live -x none
 
-# A log that fits no database that is named, or none that can be, is left, and nothing is done.
+# In a history a log is entered by the database of the history, whatever -b names. One that fits no run there is left, and
+# nothing is done.
+for named in foreign missing; do
+    cp before live
+    cp whole live.run
+    told="undorc: $named is not the database of this session: undorc update -b $named -l live -B $named carries it over\\n"
+    [ -e "$named" ] || told=
+    expect 0 'live a b\nok\n' "undorc: Recovered\n$told" 'live\n' session -b "$named" -l live -x none
+done
 cp before live
+{ cat whole; printf 'take 1 nobody\n'; } > live.run
+cp live.run kept
+expect 111 '' 'undorc: Unrecovered\n' '' change -b base -l live
+expect 111 '' 'undorc: Unrecovered\n' 'live\n' session -b base -l live -x none
+wants '' ''
+shown live.run
+cp kept out.wanted
+judge 'a log that does not fit a history stays' 0
+
+# A log that fits no database that is named, or none that can be, is left, and nothing is done.
+session_text before > live
 cp whole live.run
 cp whole kept
 expect 111 '' 'undorc: Unrecovered\n' 'live\n' session -b foreign -l live -x none
@@ -720,26 +739,46 @@ END
 mount -t tmpfs -o size=256k,mode=755 tmpfs disk
 "$1" change -b many -l disk/live
 head -c 1000000 /dev/zero > disk/filler 2> /dev/null
-for room in 4 8 12 16 20 24 28 32 64; do
+for room in 4 8 16 24 32 48 64 72 88 128; do
     for words in "change $(seq -s ' ' -f s%g 60)" undo; do
         rm -f ran
-        head -c "$((room * 1024))" /dev/zero > rest
-        truncate -s "$((256 * 1024 - 8192 - room * 1024))" disk/filler
+        truncate -s "$((256 * 1024 - 12288 - room * 1024))" disk/filler
         status=0
         "$1" $words -w 4 -b many -l disk/live > said 2>> err || status=$?
         touch ran
         echo "$status ran $(wc -l < ran) live $("$1" live -b many -l disk/live | head -n 1 | wc -w)"
     done
 done
-# With two pages left all of them come down.
-truncate -s 0 disk/filler
-"$1" change $(seq -s ' ' -f s%g 60) -w 4 -b many -l disk/live
-head -c 1000000 /dev/zero > disk/filler 2> /dev/null
-truncate -s "$((256 * 1024 - 16384))" disk/filler
-rm -f ran
-status=0
-"$1" change -D $(seq -s ' ' -f s%g 60) -w 4 -b many -l disk/live > said 2>> err || status=$?
-echo "lowered: $status ran $(wc -l < ran) live $("$1" live -b many -l disk/live | head -n 1 | wc -w)"
+# lowers PAGES FORM: all of them come down by a change where so many pages are free. FILE is a history, or the text of a
+# session, which stays one, since the database is on standard input
+lowers() {
+    free=$1 form=$2
+    rm -f disk/*
+    all=$(seq -s ' ' -f s%g 60)
+    echo "change $all" > in
+    "$program" session -w 4 -b many -l disk/live < in
+    set -- -l disk/live
+    if [ "$form" = history ]; then
+        set -- -b many -l disk/live
+        "$program" change "$@"
+    fi
+    head -c 1000000 /dev/zero > disk/filler 2> /dev/null
+    used=$(($(stat -c %b disk/live) * 512 + 4096))
+    truncate -s "$((256 * 1024 - used - free * 4096))" disk/filler
+    rm -f ran
+    status=0
+    "$program" change -D $all -w 4 "$@" > said 2>> err < many || status=$?
+    echo "lowered, $form, $free pages: $status ran $(wc -l < ran) live $("$program" live -b many -l disk/live | head -n 1 | wc -w)"
+}
+program=$1
+# With two pages left all of them come down, if FILE has the text of a session alone. A history needs room for its database
+# too. Where that is missing, the next command enters what has moved.
+lowers 2 text
+lowers 3 history
+lowers 2 history
+rm disk/filler
+"$program" change -b many -l disk/live 2>&1 | grep Recovered
+echo "lowered, entered: live $("$program" live -b many -l disk/live | head -n 1 | wc -w)"
 END
     unshare -m sh full.sh "$program" < /dev/null > told 2>&1
     grep '^[0-9]* ran' told | sort | uniq -c | sed 's/^ *//' > counted
@@ -748,8 +787,11 @@ END
     : > err
     echo 0 > status
     judge 'commands on a disk with little room' 0
-    sed -n 's/^lowered: //p' told > out
-    wants '0 ran 60 live 1\n' ''
+    sed -n 's/^lowered, //p' told > out
+    wants 'text, 2 pages: 0 ran 60 live 1
+history, 3 pages: 0 ran 60 live 1
+history, 2 pages: 111 ran 60 live 61
+entered: live 1\n' ''
     judge 'a change that only lowers, on a disk with too little room to raise' 0
     # Either both steps of a restart, and of an update to more services, have room, or neither is begun.
     begin_tree

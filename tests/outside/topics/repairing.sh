@@ -159,12 +159,22 @@ holds 'it is entered where it has altered FILE' sh -c '! grep -q . live.log || g
 rm -f live.log live moved
 they_are
 expect 0 'raised base once web\nok\n' '' '' change web -c ./ctl -b made -l live
-cp live live.run
+session_text live > live.run
 printf -- '-t 1 -D change web\ntake 1 web\ndone 1 web ok\n' >> live.run
 they_are base=up side=down top=down web=down
 expect 0 '' 'undorc: Recovered\n' '' check -r -q -c ./ctl -b made -l live
 moves 'a killed command'
 standing 'base once'
+
+# The text of a session stays one until something is restarted.
+makes_plain live
+they_are base=up side=up top=down web=down
+repairs 0 'side not live, but up\nlowered side\nok\n'
+first_line_is live 'undorc-live 2'
+they_are base=down side=down top=down web=down once=down
+repairs 0 'base live, but down\nonce live, but down\nlowered base once\nok\nraised base once\nok\n'
+first_line_is live 'undorc-history 1'
+rm -f moved
 
 # With -x nothing would be known, so it is no option. What scripts write is kept by -o, and shown by -v.
 wrong check -r -x none -c ./ctl -b made -l live

@@ -116,8 +116,13 @@ starts web
 cp live was
 expect 1 '' 'undorc: Unknown nobody\n' '' restart web -b base -l live -x up:nobody
 printf '%b' "$none" > other
+makes_plain live
+cp live plain
 expect 1 '' 'undorc: OtherDb\n' '' restart web -b other -l live -x none
 expect 111 '' 'undorc: Io\n' '' restart web -b missing -l live -x none
+cmp -s live plain || echo 'the file differs' >> out
+judge 'a restart that is refused on the text of a session' 111
+cp was live
 exec 7>> live.lock
 flock 7
 expect 0 'lower web\nok\nraise web\nok\n' '' '' restart -n web -b base -l live
@@ -133,6 +138,12 @@ wrong restart web -l live
 wrong restart -n -b base -l live
 wrong restart web -b base -l live -n -n
 wrong restart web -b base -l live -t 5
+
+# In a history its own database counts, whatever -b names.
+told='undorc: other is not the database of this session: undorc update -b other -l live -B other carries it over\n'
+expect 0 'lowered web\nok\nraised web\nok\n' "$told" '' restart web -b other -l live -x none
+expect 0 'lowered web\nok\nraised web\nok\n' '' '' restart web -b missing -l live -x none
+expect 0 'at 1 of 2\n0 +db +log +net +root +web\nok\n' '' '' journal -b base -l live
 
 # By real scripts, each once, and in the order of needs.
 begin_tree

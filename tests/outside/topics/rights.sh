@@ -41,6 +41,40 @@ modes_are 'and with one that leaves nothing to others' 'live 600\nlive.lock 600\
 chmod 640 live
 (umask 0 && "$program" undo -b base -l live < /dev/null && "$program" redo -b base -l live < /dev/null) > out 2> err
 modes_are 'the rights of FILE stay' 'live 640\nlive.lock 600\nlive.run 640\nlive.stop 600\n'
+# FILE holds the scripts of its database from the first command on: it loses the rights to read that the file of that one
+# does not give. It gains none. The text of a session keeps its rights, and so does a history, whatever -b names.
+# rights_are WHAT RIGHTS: those of FILE
+rights_are() {
+    wants "$2\n" ''
+    stat -c %a live > out
+    : > err
+    echo 0 > status
+    judge "$1" 0
+}
+for pair in '600 644 600' '640 644 640' '644 640 640' '604 640 600' '600 604 600' '4755 644 644'; do
+    # shellcheck disable=SC2086
+    set -- $pair
+    rm -f live live.*
+    cp base private
+    chmod "$1" private
+    echo 'change b' > in
+    "$program" session -b private -l live -x none < in > out 2> err
+    chmod "$2" live
+    "$program" session -b private -l live -x none < in > out 2> err
+    rights_are "rights $1 of a database, and $2 of the text of a session" "$2"
+    "$program" change a -b private -l live -x none < /dev/null > out 2> err
+    rights_are "rights $1 of a database, and $2 of FILE at its first command" "$3"
+    rm live
+    (umask 022 && "$program" change a -b private -l live -x none < /dev/null) > out 2> err
+    rights_are "rights $1 of a database, and a new FILE" "$(case $1 in 600 | 604 | 640) echo "$1" ;; *) echo 644 ;; esac)"
+done
+rm -f live live.*
+"$program" change a -b base -l live -x none < /dev/null > out 2> err
+chmod 600 private
+"$program" change b -b private -l live -x none < /dev/null > out 2> err
+rights_are 'a history has the rights that its own database gives' 644
+chmod 640 live
+
 # Until its bytes are in, a file may be read by its owner alone.
 if command -v strace > /dev/null; then
     (umask 0 && strace -f -o trace -e trace=openat,open "$program" change b -b base -l live < /dev/null) > out 2> err

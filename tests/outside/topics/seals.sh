@@ -63,12 +63,23 @@ rm live
 expect 0 'ok\n' '' '' seal -b base -l live
 expect 0 'live\nok\n' '' '' live -b base -l live
 
-# What is refused leaves the file alone.
-before
-cp live unsealed
+# A history is sealed with its own database, whatever -b names.
 printf '%b' "$none" > other
-expect 1 '' 'undorc: OtherDb\n' '' seal -b other -l live
 echo 'bundles 0' > wrong
+for named in other wrong missing; do
+    before
+    told="undorc: $named is not the database of this session: undorc update -b $named -l live -B $named carries it over\n"
+    [ -e "$named" ] || told=
+    expect 0 'ok\n' "$told" '' seal -b "$named" -l live
+    expect 0 'live db log net root web\nok\n' '' '' live -b base -l live
+    expect 0 'at 0 of 1\nok\n' '' '' journal -b base -l live
+done
+
+# What is refused leaves the file alone. It is the text of a session, as `session` makes it.
+before
+makes_plain live
+cp live unsealed
+expect 1 '' 'undorc: OtherDb\n' '' seal -b other -l live
 expect 1 '' 'undorc: Bad 0\n' '' seal -b wrong -l live
 same_as journal
 echo strange > live
@@ -78,7 +89,10 @@ mkdir live
 expect 111 '' 'undorc: Io\n' '' seal -b base -l live
 rmdir live
 before
+makes_plain live
 expect 111 '' 'undorc: Io\n' '' seal -b missing -l live
+expect 0 'ok\n' '' '' seal -b base -l live
+first_line_is live 'undorc-history 1'
 
 # The lock is taken, and what a command that was cut short has moved is entered first.
 before
@@ -87,7 +101,7 @@ flock 7
 expect 111 '' 'undorc: Busy\n' '' seal -b base -l live
 exec 7>&-
 before
-cp live live.run
+session_text live > live.run
 printf -- '-t 1 -d change web\ntake 1 web\ndone 1 web ok\n' >> live.run
 expect 0 'ok\n' 'undorc: Recovered\n' '' seal -b base -l live
 expect 0 'live db log net root\nok\n' '' '' live -b base -l live

@@ -23,7 +23,7 @@ expect 3 'net up\nroot up\nweb down\n' '' '' status both -b base -l live
 
 # logged LINES: the run log of a command that is under way or was cut short
 logged() {
-    cp live live.run
+    session_text live > live.run
     printf '%b' "$1" >> live.run
 }
 # No command is under way, and status says so. It does not know where the one that was cut short has left what it
@@ -68,11 +68,15 @@ echo 0 > status
 judge 'status leaves all as it is' 0
 expect 0 '' 'undorc: missing does not exist: nothing is up\n' '' status -b base -l missing
 printf '%b' "$none" > other
-expect 1 '' 'undorc: OtherDb\n' '' status -b other -l live
+session_text live > plain
+expect 1 '' 'undorc: OtherDb\n' '' status -b other -l plain
+told='undorc: other is not the database of this session: undorc update -b other -l live -B other carries it over\n'
+expect 0 'net up\n' "$told" '' status net -b other -l live
 expect 1 '' 'undorc: Bad 0\n' '' status -b live -l base
 mkdir folder
 expect 111 '' 'undorc: Io\n' '' status -b base -l folder
-expect 111 '' 'undorc: Io\n' '' status -b missing -l live
+expect 111 '' 'undorc: Io\n' '' status -b missing -l plain
+expect 0 'net up\n' '' '' status net -b missing -l live
 wrong status
 wrong status -b base
 wrong status -l live net

@@ -90,6 +90,8 @@ carries() {
 old_tree
 compiled old
 expect 0 'raised a b c d e\nok\n' '' '' change c e -b old -l live.old
+# It is the text of a session, as `session` makes it: the update makes it a history.
+makes_plain live.old
 all='at 0 of 1'
 
 # The same database: nothing moves, and the journal begins anew.
@@ -472,6 +474,13 @@ refused 111 'undorc: Io\n' -b nowhere -B new
 refused 111 'undorc: Io\n' -b old -B nowhere
 refused 111 'undorc: Io\n' -b . -B new
 refused 1 'undorc: Unknown e\n' -n -b old -B new -x up:e
+# In a history the database is its own, whatever -b names.
+for named in new log nowhere .; do
+    fresh
+    "$program" change -b old -x none -l live > log
+    expect 0 'lowered b c e\nok\nraised b c\nok\n' '' '' update -b "$named" -B new -x none -l live
+    expect 0 'lowered b c\nok\nraised b c e\nok\n' '' '' undo -b new -x none -l live
+done
 echo notes > notes
 expect 1 '' 'undorc: Bad 0\n' '' update -b old -B new -l notes
 expect 111 '' 'undorc: Io\n' '' update -b old -B new -l .
