@@ -30,8 +30,11 @@ is 'a command that a daemon starts goes by edited settings' 'live d
 status 0' "$(below '/etc/undorc/machine/manage live | head -n 1')"
 is 'so does one by hand' 'live d
 status 0' "$(does 'machine/manage live | head -n 1')"
-is 'a variable of the environment takes precedence' 'status 111' \
-    "$(does 'UNDORC_DB=/nowhere machine/manage change d')"
+script 'cp -r services others; mkdir others/x; echo oneshot > others/x/type; echo true > others/x/up
+    undorc compile -o db3 others'
+is 'a variable of the environment takes precedence' 1 \
+    "$(does 'UNDORC_DB=/etc/undorc/db3 machine/manage live 2>&1' \
+        | grep -c '^undorc: /etc/undorc/db3 is not the database of this session: ')"
 ask_end halt
 read_shutdown
 end_within 60
