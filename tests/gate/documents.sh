@@ -102,6 +102,14 @@ else
     echo 'FAILED: comments of functions begin with a question word or an article'
 fi
 
+# No two lemmas have one statement, and functions have at most six arguments.
+if python3 "$top/tests/gate/lemmas.py"; then
+    passed=$((passed + 1))
+else
+    failed=$((failed + 1))
+    echo 'FAILED: lemmas stand twice, or functions have too many arguments'
+fi
+
 # The list of definitions, which is not kept, can be made: it has each module of rc_model with a definition.
 python3 "$top/tests/gate/words.py" > words.md
 sed -n 's/^## `rc_model`: `\(.*\)`/\1/p' words.md > found

@@ -7,15 +7,14 @@ use Rattle.rc_model.specs.declared.Outcome.{Outcome}
 use Rattle.rc_model.specs.declared.Event.{Event}
 use Rattle.rc_model.specs.Run.{Course, IsPlanned, course_of, IsSettled}
 use Rattle.rc_core.specs.Settled.{RunSoFar}
-use Rattle.rc_model.specs.Database.{Database}
-use Rattle.rc_model.specs.Line.{Line}
 use Rattle.rc_model.specs.declared.Refusal.{Refusal}
-use Rattle.rc_model.specs.Session.{Command, Change, Undo, Redo, Add, Delete, Reported, IsTask}
+use Rattle.rc_model.specs.Session.{Command, Reported}
 use Rattle.rc_model.specs.Session.{DoesByRun}
 use Rattle.rc_session.specs.Commands.{with_events}
 use Rattle.rc_session.specs.Holding.{Holding, Task, IsBegun, with_run, with_line}
 use Rattle.rc_session.proofs.Completing.{events_given}
 use Rattle.rc_session.proofs.Excluding.{task_not_own}
+use Rattle.rc_session.proofs.Keeping.{task_opening}
 use Rattle.rc_board.specs.declared.fault.Fault.{Fault}
 use Rattle.rc_board.specs.declared.fault.Fault.TheVariants.{Workers, NoThread, Strange, Refused}
 use Rattle.rc_board.specs.Crew.{IsCrew}
@@ -23,16 +22,6 @@ use Rattle.rc_board.specs.Made.{AreMade, AreMadeInTime, AreTimely}
 use Rattle.rc_board.proofs.Making.{made_at_all, made_timely}
 use Rattle.rc_board.specs.Halting.{IsHaltOf}
 use Rattle.rc_board.specs.Working.{IsCarriedOut, IsFault, CanBegin}
-
--- the run of a command begins with what is live
-task_opening : (d : Database) (line : Line) (command : Command) (start : ℕ) (plan : PlanSets)
-    (deadline : Option ℕ) → IsTask d line command start plan deadline
-    → plan.opening ≡ line.current.live
-task_opening d line (Change ask events) start plan deadline task = task.1.opening
-task_opening d line (Undo limit events) start plan deadline task = task.2.leads.opening
-task_opening d line (Redo limit events) start plan deadline task = task.2.leads.opening
-task_opening d line (Add name contents force) start plan deadline task = absurd task
-task_opening d line (Delete words force) start plan deadline task = absurd task
 
 -- a run that was made, and a command that was completed with it
 pub carried : (workers start : ℕ) (Answers : ℕ → Way → Outcome → Type 0) (Gives : ℕ → Type 0)

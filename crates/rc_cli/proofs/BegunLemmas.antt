@@ -22,10 +22,6 @@ use Rattle.rc_update.specs.Conversions.{Conversion}
 use Rattle.rc_script.specs.RunLines.{least_limited}
 use Rattle.rc_cli.specs.Begun.{AreLowered, BeginsOn, BeginsUpdate, BeginsWith, SaysLowering}
 use Rattle.rc_cli.specs.Begun.{SaysWay}
-use Rattle.rc_script.specs.declared.line.SessionLine.{SessionLine}
-use Rattle.rc_script.specs.declared.line.SessionLine.TheVariants as line_says
-use Rattle.rc_script.specs.Says.{saying_of}
-use Rattle.rc_session.specs.declared.step.Command.{Command as Plain}
 
 -- no byte of a line is its newline
 no_newline : (line : List ℕ) → (Contains line 10 → ⊥)
@@ -217,14 +213,3 @@ update_same old new list file log d e answer one from to begins = (
       begins.1 (subst (λ (x : Database). BeginsOn x e list file log) same
       (subst (λ (y : Database). BeginsOn update.0 y list file log) also update.4)),
 )
-
--- a line that was read as no step says none
-pub not_step : (read : SessionLine) (command : Command)
-    → ((plain : Plain) → read ≡ line_says.Command plain → ⊥) → saying_of read ≡ SaysStep command → ⊥
-not_step line_says.Nothing command none is = let e = is in cc
-not_step line_says.Wrong command none is = let e = is in cc
-not_step (line_says.Command plain) command none is = none plain refl
-not_step (line_says.Dry request) command none is = let e = is in cc
-not_step line_says.Live command none is = let e = is in cc
-not_step line_says.Bundles command none is = let e = is in cc
-not_step line_says.Journal command none is = let e = is in cc

@@ -1,7 +1,7 @@
 -- What a command would move, and that there is no other.
-use Rattle.std.proofs.Common.{◌≡◌, ◌≢◌, ◌∙◌, ℕ, Bool, true, false, List, Option, Some, ap, inl}
+use Rattle.std.proofs.Common.{◌≡◌, ◌≢◌, ◌∙◌, ℕ, Bool, false, List, Option, Some, ap, inl}
 use Rattle.std.proofs.Common.{inr, string_bytes}
-use Rattle.std.proofs.Common.{Result, Ok, Err, None, IfNone, IfOk, IfSome, refl, subst, sym}
+use Rattle.std.proofs.Common.{Result, Ok, Err, None, IfNone, IfOk, IfSome, subst, sym}
 use Rattle.rc_model.specs.Database.{Database, IsDatabase}
 use Rattle.rc_model.specs.Line.{Line}
 use Rattle.rc_model.specs.Names.{Has}
@@ -11,6 +11,7 @@ use Rattle.rc_model.specs.declared.Refusal.{Refusal}
 use Rattle.rc_model.specs.declared.Refusal.TheVariants as refusal
 use Rattle.rc_session.specs.Holding.{Holding, IsBegun, IsHindrance, Task, with_line, with_run}
 use Rattle.rc_session.proofs.Excluding.{one_set, one_task, task_not_own}
+use Rattle.rc_session.proofs.Obeying.{own_of}
 use Rattle.rc_script.specs.Says.{saying_of}
 use Rattle.rc_args.specs.OnceAsked.{OnceSaying, Said}
 use Rattle.rc_args.specs.UpdateAsked.{UpdateAsk}
@@ -83,13 +84,6 @@ begins_once d bound Missing a b is one first second = first ∙ sym second
 begins_once d bound (Text bytes) a b is one first second =
     one d bytes.now a b is first.0 second.0 first.1 second.1
 begins_once d bound (Unread why) a b is one first second = absurd first
-
--- a session that is whole refuses a command for a fault of the command's own, memory aside
-own_of : (Own : Refusal → Type 0) (h : Holding) (why : Refusal) → h.spoiled ≡ false
-    → why ≢ refusal.Memory → IsHindrance Own h why → Own why
-own_of Own h refusal.Strange whole other is = let clash : true ≡ false = sym is ∙ whole in cc
-own_of Own h refusal.Memory whole other is = absurd (other refl)
-own_of Own h why whole other is = is.1
 
 -- what is refused moves nothing
 pub refused_moves : (h : Holding) (command : Command) (why : Refusal) → h.spoiled ≡ false

@@ -7,13 +7,9 @@ use Rattle.std.proofs.lemmas.Bool.{and_parts, eqb-true, false≢true}
 use Rattle.std.specs.Option.{option_map_or, option_or}
 use Rattle.std.specs.Str.{bytes_eq}
 use Rattle.std.proofs.lemmas.Slice.Eq.{bytes_eq-Decides}
+use Rattle.rc_model.proofs.Tests.{told}
 use Rattle.rc_cli.specs.Failures.{AreOwn, End, Failure, failure_for, has_ended, kept, last_failures}
 use Rattle.rc_cli.specs.Failures.{last_known, remembered}
-
--- a test that is done, or not
-told : (b : Bool) (A : Type 0) → (b ≡ true → A) → (b ≡ false → A) → A
-told true A first second = first refl
-told false A first second = second refl
 
 -- the first failure of a service in two lists
 for_both : (xs ys : List Failure) (name : List ℕ) → failure_for (xs ++ ys) name

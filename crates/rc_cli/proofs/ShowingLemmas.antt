@@ -31,15 +31,6 @@ left_closed d table live left names plan closed planned leaves =
 abbrev FitsIn : List (List ℕ) → List Bool → Type 0
 FitsIn graph set = (length set ≡ length graph) × IsClosed graph (Has set)
 
-pub live_fits : (d : Database) (here : Line) (graph : List (List ℕ)) (live : List Bool)
-    → IsDatabase d → IsLineOf d here → graph ≡ d.needs → live ≡ here.current.live
-    → FitsIn graph live
-live_fits d here graph live is_db of same is =
-    let state = current_state d here of in
-    subst (λ (needs : List (List ℕ)). FitsIn needs live) (sym same)
-    (subst (λ (set : List Bool). FitsIn d.needs set) (sym is)
-    (state.bound ∙ sym is_db.fit.graph, state.closed))
-
 -- what is left, in the words of the spec
 leaves_by : (live held left lower : List Bool) (plan : PlanSets) → held ≡ live → lower ≡ plan.lower
     → Holds left (λ s. Has held s × (Has lower s → ⊥))

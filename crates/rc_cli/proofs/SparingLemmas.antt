@@ -1,10 +1,10 @@
 -- What the steps of an update move.
-use Rattle.std.proofs.Common.{◌≡◌, ◌↔◌, ◌<◌, inl, inr, ℕ, Bool, true, false, List, [], Some, length}
+use Rattle.std.proofs.Common.{◌≡◌, ◌↔◌, ◌<◌, inl, inr, ℕ, true, false, List, [], Some, length}
 use Rattle.std.proofs.Common.{slice_get, subst, arith}
 use Rattle.std.proofs.lemmas.Option.{slice_get-get_or}
 use Rattle.rc_model.specs.Names.{Has}
 use Rattle.rc_model.proofs.SetMembers.{has_within}
-use Rattle.rc_model.specs.Graph.{DownFrom, UpFrom}
+use Rattle.rc_model.specs.Graph.{UpFrom}
 use Rattle.rc_model.proofs.ByteOrder.{one_place}
 use Rattle.rc_model.proofs.Members.{contains_at}
 use Rattle.rc_model.specs.Database.{Bundles, AreApart, Database, IsDatabase}
@@ -14,6 +14,7 @@ use Rattle.rc_model.specs.Plan.{IsPlanOf, IsWanted, PlanSets}
 use Rattle.rc_model.specs.declared.Mode.{Mode}
 use Rattle.rc_model.specs.declared.Mode.TheVariants.{DownAll, Up}
 use Rattle.rc_model.specs.Session.{IsLineOf}
+use Rattle.rc_model.proofs.Closures.{up_more, down_more}
 use Rattle.rc_session.proofs.States.{current_state}
 use Rattle.rc_update.specs.Carrying.{AreNamesOf, Carried, IsAlteredUp, StaysUp}
 use Rattle.rc_update.specs.Conversions.{Conversion}
@@ -37,17 +38,6 @@ module _ (d : Database) (table : Bundles) (P IsUp : ℕ → Type 0) (mode : Mode
   pub wanted_back : AreNamesOf d P names → (s : ℕ) (name : List ℕ) → slice_get d.names s ≡ Some name
       → P s → IsWanted d.names table IsUp (step_ask mode names) s
   wanted_back lists s name at holds = inl (name, (lists.same name).1 (s, at, holds), inl at)
-
--- closures of the same members are the same
-down_as : (needs : List (List ℕ)) (P Q : ℕ → Type 0) (s : ℕ) → ((t : ℕ) → P t → Q t)
-    → DownFrom needs P s → DownFrom needs Q s
-down_as needs P Q s each (inl member) = inl (each s member)
-down_as needs P Q s each (inr (t, member, path)) = inr (t, each t member, path)
-
-up_as : (needs : List (List ℕ)) (P Q : ℕ → Type 0) (s : ℕ) → ((t : ℕ) → P t → Q t)
-    → UpFrom needs P s → UpFrom needs Q s
-up_as needs P Q s each (inl member) = inl (each s member)
-up_as needs P Q s each (inr (t, member, path)) = inr (t, each t member, path)
 
 -- the first step
 module _ (old new : Database) (list : List Conversion) (line : Line) (parts : Parts)
@@ -77,9 +67,9 @@ module _ (old new : Database) (list : List Conversion) (line : Line) (parts : Pa
           λ stays. goes.1 (
             stays.0,
             λ down. stays.1
-                (down_as old.needs wanted altered s
+                (down_more old.needs wanted altered
                 (wanted_in old line.current.table altered (Has line.current.live) DownAll
-                parts.lower is apart update.lower) down),
+                parts.lower is apart update.lower) s down),
           ),
         ),
         λ goes. (planned.lower s).1 (
@@ -87,7 +77,7 @@ module _ (old new : Database) (list : List Conversion) (line : Line) (parts : Pa
           λ stays. goes.1 (
             stays.0,
             λ down. stays.1
-                (down_as old.needs altered wanted s (altered_wanted of update) down),
+                (down_more old.needs altered wanted (altered_wanted of update) s down),
           ),
         ),
       )
@@ -117,14 +107,14 @@ module _ (old new : Database) (list : List Conversion) (line : Line) (parts : Pa
           elim comes.0 [
             | inl up ↦ absurd (comes.1 up)
             | inr from ↦
-                up_as new.needs wanted carried s
+                up_more new.needs wanted carried
                 (wanted_in new new.table carried (Has parts.kept) Up parts.raise is is.fit.apart
-                update.raise) from
+                update.raise) s from
           ],
           comes.1,
         ),
         λ comes. (planned.raise s).1
-            (inr (up_as new.needs carried wanted s (carried_wanted update) comes.0), comes.1),
+            (inr (up_more new.needs carried wanted (carried_wanted update) s comes.0), comes.1),
       )
 
   pub raises_alone : IsPlanOf new new.table parts.kept (step_ask Up parts.raise) plan → (s : ℕ)

@@ -1,5 +1,5 @@
 -- Strays are brought down.
-use Rattle.std.proofs.Common.{◌≡◌, ◌∙◌, ℕ, Bool, false, List, Option, None, ap, inl, inr, subst}
+use Rattle.std.proofs.Common.{◌≡◌, ◌∙◌, ℕ, Bool, false, List, Option, None, ap, subst}
 use Rattle.std.specs.Io.KnownBytes.{Appends}
 use Rattle.rc_graph.proofs.Paths.{up_is_closed}
 use Rattle.rc_model.specs.Database.{Bundles, Database, Selected}
@@ -9,6 +9,7 @@ use Rattle.rc_session.specs.Holding.{Holding}
 use Rattle.rc_runner.specs.Gates.{gate_answers, gate_gives}
 use Rattle.rc_runner.specs.declared.session_gate.SessionGate.{SessionGate}
 use Rattle.rc_model.specs.declared.Mode.TheVariants.{DownAll}
+use Rattle.rc_model.proofs.Closures.{up_more}
 use Rattle.rc_script.specs.Says.{Saying}
 use Rattle.rc_serve.specs.Ending.{Ends, EndsIn, IsDoneAs}
 use Rattle.rc_serve.specs.declared.ending.Ending.{Ending}
@@ -25,14 +26,6 @@ closed_up : (needs : List (List ℕ)) (Set : ℕ → Type 0) (live : List Bool)
 closed_up needs Set live holds s t has need =
     (holds t).1 (up_is_closed needs Set s t ((holds s).0 has) need)
 
--- members that are known otherwise need the same
-up_same : (needs : List (List ℕ)) (A B : ℕ → Type 0) → ((s : ℕ) → A s → B s) → (t : ℕ)
-    → UpFrom needs A t → UpFrom needs B t
-up_same needs A B turn t up = elim up [
-  | inl here ↦ inl (turn t here)
-  | inr there ↦ inr (there.0, turn there.0 there.1, there.2)
-]
-
 -- a set that holds what wanted services need and they themselves, by the graph and the bundles of a
 -- database
 pub live_members : (d : Database) (graph : List (List ℕ)) (table : Bundles)
@@ -45,8 +38,8 @@ live_members d graph table strays wanted live same stands meant holds t =
     subst (λ (b : Bundles). Holds wanted (Selected d.names b strays)) stands meant in
     let with : Holds live (UpFrom d.needs (Has wanted)) =
     subst (λ (g : List (List ℕ)). Holds live (UpFrom g (Has wanted))) same holds in (
-      λ has. up_same d.needs (Has wanted) In (λ s x. (those s).0 x) t ((with t).0 has),
-      λ up. (with t).1 (up_same d.needs In (Has wanted) (λ s x. (those s).1 x) t up),
+      λ has. up_more d.needs (Has wanted) In (λ s x. (those s).0 x) t ((with t).0 has),
+      λ up. (with t).1 (up_more d.needs In (Has wanted) (λ s x. (those s).1 x) t up),
     )
 
 -- and it is closed

@@ -1,48 +1,24 @@
 -- What definitions without flaws in their pipes are.
-use Rattle.std.proofs.Common.{◌≡◌, ◌≢◌, ◌∙◌, ◌⊎◌, inl, inr, ℕ, Bool, true, false, List, [], ◌∷◌}
-use Rattle.std.proofs.Common.{Contains, Option, Some, None, refl, sym, subst, true≢false}
-use Rattle.std.specs.Str.{bytes_eq}
+use Rattle.std.proofs.Common.{◌≡◌, ◌≢◌, ◌⊎◌, inl, inr, ℕ, List, [], ◌∷◌}
+use Rattle.std.proofs.Common.{Contains, Option, Some, None, refl, sym, subst}
 use Rattle.std.proofs.lemmas.Option.{same_Some}
-use Rattle.std.proofs.lemmas.Slice.Eq.{bytes_eq-Decides}
 use Rattle.rc_model.specs.declared.Kind.{Kind}
 use Rattle.rc_model.specs.declared.Kind.TheVariants.{Oneshot, Longrun, Bundle}
+use Rattle.rc_model.proofs.ByteOrder.{same_or_other, listed_or_not}
+use Rattle.rc_model.proofs.Members.{contains_later, none_contained}
 use Rattle.rc_source.specs.Meaning.{Meaning, AreMeanings}
-use Rattle.rc_source.proofs.Members.{Contains-cons_cases, Contains-there, Contains-here}
-use Rattle.rc_source.proofs.Members.{Contains-nil}
+use Rattle.rc_source.proofs.Members.{Contains-cons_cases, Contains-here}
 use Rattle.rc_compile.specs.Pipelines.{IsDefined, IsLongrun, WritesTo, ReadsFrom}
 use Rattle.rc_compile.specs.Sets.{ArePiped, AreApart}
 use Rattle.rc_compile.proofs.Meanings.{only_one}
 use Rattle.rc_compile.specs.CompileFaults.{HasWrongType, HasNoMatch, HasTakenName}
 
-pub same_or_other : (a b : List ℕ) → (a ≡ b) ⊎ (a ≢ b)
-same_or_other a b = by (bytes_eq a b) refl
-  where
-    by : (test : Bool) → bytes_eq a b ≡ test → (a ≡ b) ⊎ (a ≢ b)
-    by true e = inl ((bytes_eq-Decides a b).0 e)
-    by false e = inr (λ same. true≢false (sym ((bytes_eq-Decides a b).1 same) ∙ e))
-
--- whether a list has a name
-listed_or_not : (names : List (List ℕ)) (name : List ℕ)
-    → Contains names name ⊎ (Contains names name → ⊥)
-listed_or_not [] name = inr (λ there. Contains-nil name there)
-listed_or_not (x ∷ xs) name = elim (same_or_other name x) [
-  | inl same ↦ inl (Contains-here x xs name same)
-  | inr differ ↦ elim (listed_or_not xs name) [
-    | inl rest ↦ inl (Contains-there x xs name rest)
-    | inr out ↦
-        inr (λ there. elim (Contains-cons_cases x xs name there) [
-          | inl here ↦ differ here
-          | inr rest ↦ out rest
-        ])
-  ]
-]
-
 -- whether the meaning of a name is such
 defined_or_not : (P : Meaning → Type 0) → ((m : Meaning) → P m ⊎ (P m → ⊥))
     → (ms : List Meaning) (name : List ℕ) → IsDefined ms P name ⊎ (IsDefined ms P name → ⊥)
-defined_or_not P test [] name = inr (λ found. Contains-nil found.0 found.1)
+defined_or_not P test [] name = inr (λ found. none_contained found.0 found.1)
 defined_or_not P test (m ∷ ms) name = elim (defined_or_not P test ms name) [
-  | inl found ↦ inl (found.0, Contains-there m ms found.0 found.1, found.2, found.3)
+  | inl found ↦ inl (found.0, contains_later m ms found.0 found.1, found.2, found.3)
   | inr none ↦ elim (same_or_other m.name name) [
     | inr differ ↦ inr (λ found. elim (Contains-cons_cases m ms found.0 found.1) [
       | inl first ↦ differ (subst (λ (x : Meaning). x.name ≡ name) first found.2)

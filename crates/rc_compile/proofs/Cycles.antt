@@ -9,7 +9,8 @@ use Rattle.rc_model.specs.Graph.{Needs, EachNeedsNext, Reaches, IsAcyclic}
 use Rattle.rc_graph.specs.Cycle.{IsCycle}
 use Rattle.rc_compile.specs.Along.{EachNext, IsShownCycle}
 use Rattle.rc_compile.specs.Mirror.{Mirrors}
-use Rattle.rc_model.proofs.BundleOrders.{before_at, one_place, place_of}
+use Rattle.rc_model.proofs.ByteOrder.{before_at, one_place}
+use Rattle.rc_model.proofs.Members.{place_of}
 
 -- the name at a place
 abbrev pub shown_at : List (List ℕ) → ℕ → List ℕ

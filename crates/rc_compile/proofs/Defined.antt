@@ -1,10 +1,8 @@
 -- What is defined of a name, where each name is that of one meaning.
-use Rattle.std.proofs.Common.{◌≡◌, ◌≢◌, ◌∙◌, ◌<◌, ◌⊎◌, inl, inr, ℕ, List, [], length, get_or}
-use Rattle.std.proofs.Common.{slice_get, Contains, AllPairs, Some, None, refl, sym, ap, subst}
+use Rattle.std.proofs.Common.{◌≡◌, ◌≢◌, ◌∙◌, ◌<◌, ℕ, List, [], length, get_or}
+use Rattle.std.proofs.Common.{slice_get, Contains, AllPairs, Some, None, sym, ap, subst}
 use Rattle.std.proofs.Common.{arith}
 use Rattle.std.proofs.lemmas.Option.{slice_get_within, get_or_from_slice_get}
-use Rattle.rc_model.specs.declared.Kind.{Kind}
-use Rattle.rc_model.specs.declared.Kind.TheVariants.{Oneshot, Longrun, Bundle}
 use Rattle.rc_source.specs.Meaning.{Meaning, AreMeanings, IsMeaning}
 use Rattle.rc_compile.specs.Pipelines.{IsService, WritesTo, ReadsFrom}
 
@@ -41,9 +39,3 @@ module _ (ms : List Meaning) (are : AreMeanings ms) where
         let empty : Contains [] b = subst (λ l. Contains l b) none reads in
         let bad : empty.0 < 0 = empty.1 in omega arith,
   )
-
--- an entry is a bundle or a service
-pub bundle_or_not : (kind : Kind) → (kind ≡ Bundle) ⊎ (kind ≢ Bundle)
-bundle_or_not Oneshot = inr (λ bad. cc)
-bundle_or_not Longrun = inr (λ bad. cc)
-bundle_or_not Bundle = inl refl

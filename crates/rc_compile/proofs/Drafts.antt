@@ -7,8 +7,8 @@ use Rattle.std.proofs.lemmas.List.Elements.{Contains-push, Contains-push_cases}
 use Rattle.std.proofs.lemmas.List.Elements.{Contains-append_left}
 use Rattle.std.proofs.lemmas.Option.{slice_get_within}
 use Rattle.rc_model.specs.Graph.{Needs, AreServices}
+use Rattle.rc_model.proofs.Members.{none_contained}
 use Rattle.rc_graph.proofs.RowLemmas.{needer_known}
-use Rattle.rc_source.proofs.Members.{Contains-nil}
 use Rattle.rc_compile.specs.declared.members.graph.CycleFault.{CycleFault}
 use Rattle.rc_compile.specs.declared.members.graph.CycleFault.TheVariants.{Cycle, Memory}
 use Rattle.rc_compile.specs.Along.{IsShownCycle}
@@ -97,7 +97,7 @@ none_needed draft n is s t need =
     let inside : Needs (replicate n []) s t = subst (λ (d : List (List ℕ)). Needs d s t) is need in
     let low : s < n =
     omega (arith, needer_known (replicate n []) s t inside, length-replicate {A = List ℕ} n []) in
-    Contains-nil t (subst (λ (l : List ℕ). Contains l t) (get_or-replicate n s [] [] low) inside)
+    none_contained t (subst (λ (l : List ℕ). Contains l t) (get_or-replicate n s [] [] low) inside)
 
 pub shown_fault : (R : List ℕ → List ℕ → Type 0) (names : List (List ℕ)) (fault : CycleFault)
     → IsShownBy names fault → IsShownCycle R names → IsCycleFault R fault

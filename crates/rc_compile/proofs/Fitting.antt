@@ -12,13 +12,13 @@ use Rattle.rc_model.specs.Database.{IsKind, FitTogether}
 use Rattle.rc_db.specs.Service.{IsScript, IsWritableService}
 use Rattle.rc_db.specs.Database.{IsWritable}
 use Rattle.rc_model.proofs.Places.{all_places, contains_at as places_contain}
+use Rattle.rc_model.proofs.Members.{contains_at}
 use Rattle.rc_source.specs.Texts.{IsScriptText}
 use Rattle.rc_source.specs.Meaning.{Meaning, IsMeaning, AreMeanings}
 use Rattle.rc_compile.specs.Pipelines.{IsDefined, IsService, IsLongrun, WritesTo}
 use Rattle.rc_compile.specs.Standing.{IsBundle, NeedsNamed, StandsFor}
 use Rattle.rc_compile.specs.Mirror.{Mirrors}
 use Rattle.rc_compile.proofs.Meanings.{only_one, longrun_is_service}
-use Rattle.rc_model.proofs.BundleOrders.{contains_at}
 use Rattle.rc_compile.specs.Compiled.{IsAsDefined, IsDatabaseOf}
 use Rattle.rc_compile.specs.CompileFaults.{HasTakenName, HasWrongType}
 use Rattle.rc_compile.specs.Placed.{AreAsDefined}

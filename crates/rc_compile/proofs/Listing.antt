@@ -1,8 +1,8 @@
 -- Lists of places that grow by what definitions list.
 use Rattle.std.proofs.Common.{◌≡◌, ◌∙◌, ℕ, ◌+◌, ◌<◌, ◌⊎◌, ◌↔◌, inl, inr, List, [], ◌∷◌, ◌++◌}
 use Rattle.std.proofs.Common.{length, take, map, replicate, get_or, slice_get, slice_index_or}
-use Rattle.std.proofs.Common.{slice_set, Contains, Option, Some, Result, Ok, Err, OnOk, zero}
-use Rattle.std.proofs.Common.{suc, refl, sym, ap, subst, arith}
+use Rattle.std.proofs.Common.{slice_set, Contains, Option, Some, Result, Ok, Err, OnOk}
+use Rattle.std.proofs.Common.{refl, sym, ap, subst, arith}
 use Rattle.std.specs.Global.{Vec}
 use Rattle.std.specs.Option.{option_to_list}
 use Rattle.std.proofs.lemmas.Bool.{cases_eq}
@@ -20,8 +20,9 @@ use Rattle.rc_source.specs.declared.definition.Definition.{Definition}
 use Rattle.rc_source.specs.Said.{meaning_of}
 use Rattle.rc_compile.specs.declared.members.rows.Listed.{Listed}
 use Rattle.rc_compile.specs.Mirror.{listed_of, HasListed, Mirrors}
-use Rattle.rc_compile.proofs.Walks.{no_member}
-use Rattle.rc_model.proofs.BundleOrders.{one_place, contains_at}
+use Rattle.rc_model.proofs.ByteOrder.{one_place}
+use Rattle.rc_model.proofs.Members.{contains_at}
+use Rattle.rc_graph.proofs.RowLemmas.{no_need}
 
 -- the list has the places of some names too
 abbrev pub Puts : List (List ℕ) → List ℕ → List (List ℕ) → List ℕ → Type 0
@@ -152,18 +153,12 @@ row_passed lists from name Q missing s t = (
   ],
 )
 
--- empty lists list nothing
-none_in : (n s t : ℕ) → Needs (replicate n []) s t → ⊥
-none_in zero s t there = no_member t there
-none_in (suc n) zero t there = no_member t there
-none_in (suc n) (suc s) t there = none_in n s t there
-
 pub mirrors_none : (which : Listed) (from to lists : List (List ℕ)) (n : ℕ) → lists ≡ replicate n []
     → n ≡ length from → Mirrors (HasListed which []) from to lists
 mirrors_none which from to lists n empty few = record {
   few = ap length empty ∙ length-replicate n [] ∙ few;
   same = λ s t. (
-    λ there. absurd (none_in n s t (subst (λ (ls : List (List ℕ)). Needs ls s t) empty there)),
+    λ there. absurd (no_need n s t (subst (λ (ls : List (List ℕ)). Needs ls s t) empty there)),
     λ named. let k : ℕ = named.4.1.0 in let low : k < 0 = named.4.1.1 in absurd (omega arith),
   );
 }

@@ -4,8 +4,9 @@ use Rattle.std.proofs.Common.{None, sym, ap, subst}
 use Rattle.std.specs.Option.{option_to_list}
 use Rattle.rc_model.specs.Graph.{Needs}
 use Rattle.rc_model.proofs.Places.{contains_at, place_of}
+use Rattle.rc_model.proofs.Members.{none_contained, only}
 use Rattle.rc_source.specs.Meaning.{Meaning}
-use Rattle.rc_source.proofs.Members.{only, Contains-here, Contains-nil}
+use Rattle.rc_source.proofs.Members.{Contains-here}
 use Rattle.rc_compile.specs.Mirror.{HasListed, Mirrors}
 use Rattle.rc_compile.specs.declared.members.rows.Listed.TheVariants.{Producer}
 use Rattle.rc_compile.specs.Pipelines.{WritesTo}
@@ -15,7 +16,7 @@ use Rattle.rc_compile.specs.Book.{HasPair}
 pub option_listed : (o : Option (List ℕ)) (x : List ℕ)
     → Contains (option_to_list o) x ↔ (o ≡ Some x)
 option_listed None x =
-    (λ there. absurd (Contains-nil x there), λ same. let bad : None ≡ Some x = same in cc)
+    (λ there. absurd (none_contained x there), λ same. let bad : None ≡ Some x = same in cc)
 option_listed (Some y) x = (
   λ there. ap (λ z. Some z) (sym (only y x there)),
   λ same. let one : x ≡ y = cc in

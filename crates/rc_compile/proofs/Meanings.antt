@@ -28,7 +28,7 @@ only_one ms are P m (i, i_low, at_i) (other, (j, j_low, at_j), called, holds) =
     ]
 
 -- a bundle or not
-kind_cases : (kind : Kind) → (kind ≡ Bundle) ⊎ (kind ≢ Bundle)
+pub kind_cases : (kind : Kind) → (kind ≡ Bundle) ⊎ (kind ≢ Bundle)
 kind_cases Oneshot = inr (λ e. let bad : Oneshot ≡ Bundle = e in cc)
 kind_cases Longrun = inr (λ e. let bad : Longrun ≡ Bundle = e in cc)
 kind_cases Bundle = inl refl

@@ -4,7 +4,8 @@ use Rattle.std.proofs.Common.{◌++◌, length, get_or, take, Contains, sym, sub
 use Rattle.std.proofs.lemmas.List.{take_more, take_all, length-take}
 use Rattle.std.proofs.lemmas.List.Elements.{Contains-append_cases, Contains-append_left}
 use Rattle.std.proofs.lemmas.List.Elements.{Contains-append_right}
-use Rattle.rc_source.proofs.Members.{only, Contains-here}
+use Rattle.rc_source.proofs.Members.{Contains-here}
+use Rattle.rc_model.proofs.Members.{only}
 
 module _ {X : Type 0} where
   -- the new ones are the old ones and those of which this holds

@@ -1,9 +1,10 @@
 -- Databases of the same definitions are one.
-use Rattle.std.proofs.Common.{◌≡◌, ◌∙◌, ◌<◌, inl, inr, ℕ, suc, Bool, true, false, List, [], ◌∷◌}
+use Rattle.std.proofs.Common.{◌≡◌, ◌∙◌, ◌<◌, inl, inr, ℕ, suc, Bool, false, List, [], ◌∷◌}
 use Rattle.std.proofs.Common.{length, get_or, slice_get, Contains, Option, Some, None, refl, sym}
 use Rattle.std.proofs.Common.{ap, subst, arith}
 use Rattle.std.specs.Option.{option_map}
 use Rattle.std.proofs.lemmas.Option.{slice_get-get_or, same_Some}
+use Rattle.std.specs.Cmp.{both_ways}
 use Rattle.rc_model.specs.Names.{IsInByteOrder, Has, IsAscending}
 use Rattle.rc_model.proofs.SetMembers.{has_within}
 use Rattle.rc_model.specs.Graph.{Needs}
@@ -12,25 +13,15 @@ use Rattle.rc_model.specs.Database.{Service, names_of, value_of, Database, IsDat
 use Rattle.rc_model.proofs.Tables.{same_table}
 use Rattle.rc_db.proofs.Values.{named_by_value}
 use Rattle.rc_db.proofs.Words.{bound_of_value, value_of-named}
-use Rattle.rc_source.specs.Meaning.{Meaning, ListsNames}
-use Rattle.rc_source.proofs.Members.{Contains-cons_cases, Contains-there, Contains-here}
-use Rattle.rc_source.proofs.Members.{Contains-nil}
-use Rattle.rc_model.proofs.ByteOrder.{same_names}
+use Rattle.rc_source.specs.Meaning.{Meaning}
+use Rattle.rc_source.proofs.Members.{Contains-cons_cases, Contains-here}
+use Rattle.rc_source.proofs.Members.{listed_once}
+use Rattle.rc_model.proofs.ByteOrder.{one_place}
+use Rattle.rc_model.proofs.Members.{contains_at, contains_later, none_contained}
+use Rattle.rc_model.proofs.Places.{same_by_places, rest_ascends}
 use Rattle.rc_compile.specs.Pipelines.{IsService}
 use Rattle.rc_compile.specs.Standing.{IsBundle}
-use Rattle.rc_model.proofs.BundleOrders.{contains_at, one_place}
 use Rattle.rc_compile.specs.Compiled.{IsAsDefined, IsDatabaseOf}
-
--- lists with the same elements at all places are one
-same_list : {X : Type 0} (xs ys : List X) → length xs ≡ length ys
-    → ((i : ℕ) → i < length xs → slice_get xs i ≡ slice_get ys i) → xs ≡ ys
-same_list [] [] long same = refl
-same_list [] (y ∷ ys) long same = absurd (omega arith)
-same_list (x ∷ xs) [] long same = absurd (omega arith)
-same_list (x ∷ xs) (y ∷ ys) long same =
-    let head : x ≡ y = same_Some x y (same 0 (omega arith)) in
-    let tail : xs ≡ ys = same_list xs ys (omega arith) (λ i low. same (suc i) (omega arith)) in
-    cc
 
 same_at : {X : Type 0} (xs ys : List X) (i : ℕ) (d : X) → length xs ≡ length ys → i < length xs
     → get_or xs i d ≡ get_or ys i d → slice_get xs i ≡ slice_get ys i
@@ -43,16 +34,13 @@ head_below : (x : ℕ) (xs : List ℕ) → IsAscending (x ∷ xs) → (y : ℕ) 
 head_below x xs up y (k, within, here) =
     subst (λ z. x < z) here (up 0 (suc k) y (omega arith) (omega arith))
 
-tail_ascends : (x : ℕ) (xs : List ℕ) → IsAscending (x ∷ xs) → IsAscending xs
-tail_ascends x xs up i j d first within = up (suc i) (suc j) d (omega arith) (omega arith)
-
 -- ascending lists of the same ids are one
 same_ids : (xs ys : List ℕ) → IsAscending xs → IsAscending ys
     → ((n : ℕ) → Contains xs n → Contains ys n) → ((n : ℕ) → Contains ys n → Contains xs n)
     → xs ≡ ys
 same_ids [] [] up vp to from = refl
-same_ids [] (y ∷ ys) up vp to from = absurd (Contains-nil y (from y (Contains-here y ys y refl)))
-same_ids (x ∷ xs) [] up vp to from = absurd (Contains-nil x (to x (Contains-here x xs x refl)))
+same_ids [] (y ∷ ys) up vp to from = absurd (none_contained y (from y (Contains-here y ys y refl)))
+same_ids (x ∷ xs) [] up vp to from = absurd (none_contained x (to x (Contains-here x xs x refl)))
 same_ids (x ∷ xs) (y ∷ ys) up vp to from =
     let first : x ≡ y = elim (Contains-cons_cases y ys x (to x (Contains-here x xs x refl))) [
       | inl here ↦ here
@@ -65,22 +53,17 @@ same_ids (x ∷ xs) (y ∷ ys) up vp to from =
       ]
     ] in
     let forth : (n : ℕ) → Contains xs n → Contains ys n =
-    λ n there. elim (Contains-cons_cases y ys n (to n (Contains-there x xs n there))) [
+    λ n there. elim (Contains-cons_cases y ys n (to n (contains_later x xs n there))) [
       | inl at ↦ (let low : x < n = head_below x xs up n there in absurd (omega (arith, at, first)))
       | inr rest ↦ rest
     ] in
     let back : (n : ℕ) → Contains ys n → Contains xs n =
-    λ n there. elim (Contains-cons_cases x xs n (from n (Contains-there y ys n there))) [
+    λ n there. elim (Contains-cons_cases x xs n (from n (contains_later y ys n there))) [
       | inl at ↦ (let low : y < n = head_below y ys vp n there in absurd (omega (arith, at, first)))
       | inr rest ↦ rest
     ] in
-    let tail : xs ≡ ys = same_ids xs ys (tail_ascends x xs up) (tail_ascends y ys vp) forth back in
+    let tail : xs ≡ ys = same_ids xs ys (rest_ascends x xs up) (rest_ascends y ys vp) forth back in
     cc
-
-same_flag : (a b : Bool) → (a ≡ true → b ≡ true) → (b ≡ true → a ≡ true) → a ≡ b
-same_flag true b to from = sym (to refl)
-same_flag false true to from = from refl
-same_flag false false to from = refl
 
 one_target : (xs : List (List ℕ)) → IsInByteOrder xs → (p q : Option ℕ) (c : Option (List ℕ))
     → option_map (slice_get xs) p ≡ option_map (λ name. Some name) c
@@ -107,19 +90,10 @@ one_service xs up m a b ha hb = λ n. record {
       hb.producer_for n;
 }
 
-one_list : (P : List ℕ → Type 0) (xs ys : List (List ℕ)) → ListsNames P xs
-    → ListsNames P ys → xs ≡ ys
-one_list P xs ys first second =
-    same_names xs ys first.order second.order
-    (λ n. (
-      λ h. (second.same n).1 ((first.same n).0 h),
-      λ h. (first.same n).1 ((second.same n).0 h),
-    ))
-
 module _ (ms : List Meaning) (d e : Database) (of : IsDatabaseOf ms d)
     (also : IsDatabaseOf ms e) where
   one_names : d.names ≡ e.names
-  one_names = one_list (IsService ms) d.names e.names of.names also.names
+  one_names = listed_once (IsService ms) d.names e.names of.names also.names
 
   -- what stands at a place of one stands there in the other
   named_too : (s : ℕ) (name : List ℕ) → slice_get d.names s ≡ Some name
@@ -173,15 +147,15 @@ module _ (ms : List Meaning) (d e : Database) (of : IsDatabaseOf ms d) (also : I
       → value_of e.table name ≡ Some a
   value_too name a value_a =
       let bundles =
-      one_list (IsBundle ms) (names_of d.table) (names_of e.table) of.bundles also.bundles in
+      listed_once (IsBundle ms) (names_of d.table) (names_of e.table) of.bundles also.bundles in
       let (b, value_b) = value_of-named e.table name
       (subst (λ (names : List (List ℕ)). Contains names name) bundles
       (named_by_value d.table name a value_a)) in
       let long_a = bound_of_value (length d.names) d.table name a is_d.fit.bounds value_a in
       let long_b = bound_of_value (length e.names) e.table name b is_e.fit.bounds value_b in
       let long : length a ≡ length b = long_a ∙ ap length (one_names ms d e of also) ∙ sym long_b in
-      let same : a ≡ b = same_list a b long (λ s low. same_at a b s false long low
-      (same_flag (get_or a s false) (get_or b s false)
+      let same : a ≡ b = same_by_places a b long (λ s low. same_at a b s false long low
+      (both_ways (get_or a s false) (get_or b s false)
       (has_too ms d e of also is_d name a b value_a value_b s)
       (has_too ms e d also of is_e name b a value_b value_a s))) in
       value_b ∙ ap (λ (set : List Bool). Some set) (sym same)
@@ -203,13 +177,13 @@ pub one_database : (ms : List Meaning) (d e : Database) → IsDatabaseOf ms d �
     → IsDatabase d → IsDatabase e → d ≡ e
 one_database ms d e of also is_d is_e =
     let names : d.names ≡ e.names = one_names ms d e of also in
-    let services : d.services ≡ e.services = same_list d.services e.services
+    let services : d.services ≡ e.services = same_by_places d.services e.services
     (is_d.fit.services ∙ ap length names ∙ sym is_e.fit.services)
     (services_same ms d e of also is_d) in
     let long : length d.needs ≡ length e.needs =
     is_d.fit.graph ∙ ap length names ∙ sym is_e.fit.graph in
     let needs : d.needs ≡ e.needs =
-    same_list d.needs e.needs long (λ s low. same_at d.needs e.needs s [] long low
+    same_by_places d.needs e.needs long (λ s low. same_at d.needs e.needs s [] long low
     (same_ids (get_or d.needs s []) (get_or e.needs s []) (is_d.needs.ascending s)
     (is_e.needs.ascending s) (needs_too ms d e of also is_d s) (needs_too ms e d also of is_e s)))
     in

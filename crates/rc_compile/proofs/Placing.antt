@@ -11,10 +11,10 @@ use Rattle.std.proofs.lemmas.Option.{same_Some}
 use Rattle.rc_model.specs.Names.{IsInByteOrder}
 use Rattle.rc_model.specs.Database.{Service}
 use Rattle.rc_model.proofs.Places.{place_of, contains_at}
+use Rattle.rc_model.proofs.ByteOrder.{one_place}
 use Rattle.rc_source.specs.Meaning.{Meaning}
 use Rattle.rc_source.specs.Said.{meaning_of}
 use Rattle.rc_source.specs.declared.definition.Definition.{Definition}
-use Rattle.rc_model.proofs.BundleOrders.{one_place}
 use Rattle.rc_compile.specs.Compiled.{IsAsDefined}
 use Rattle.rc_compile.specs.Placed.{ArePlacesOf, AreAsDefined}
 

@@ -3,10 +3,10 @@ use Rattle.std.proofs.Common.{◌≡◌, ℕ, List, [], ◌∷◌, ◌++◌}
 use Rattle.std.specs.Prelude.{Some, slice_get}
 use Rattle.rc_model.specs.Graph.{Reaches}
 use Rattle.rc_model.specs.Database.{Database, IsDatabase}
+use Rattle.rc_model.proofs.Members.{place_of}
 use Rattle.rc_source.specs.Meaning.{Meaning}
 use Rattle.rc_compile.specs.Along.{EachNext, IsShownCycle}
 use Rattle.rc_compile.specs.Standing.{NeedsNamed}
-use Rattle.rc_model.proofs.BundleOrders.{place_of}
 use Rattle.rc_compile.specs.Compiled.{IsDatabaseOf}
 
 -- the first of a list, or else a last one

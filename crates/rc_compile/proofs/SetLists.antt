@@ -17,8 +17,8 @@ use Rattle.rc_compile.specs.Standing.{IsBundle, HasContent, HoldsName, StandsFor
 use Rattle.rc_compile.specs.Mirror.{Mirrors}
 use Rattle.rc_compile.specs.Joining.{HasAlong}
 use Rattle.rc_compile.specs.Sets.{ArePiped, AreApart, AreSetsOf, IsPipedBy, HasPiped}
-use Rattle.rc_model.proofs.BundleOrders.{one_place, contains_at}
-use Rattle.rc_compile.proofs.Walks.{no_member}
+use Rattle.rc_model.proofs.ByteOrder.{one_place}
+use Rattle.rc_model.proofs.Members.{contains_at, none_contained}
 use Rattle.rc_compile.proofs.Stands.{stands_along, piped_held}
 
 -- the sets with those of some more
@@ -179,7 +179,7 @@ sets_more lists old new i one list long before pushed holds lists_i s low = elim
 
 -- the set of a list, as far as it was passed
 pub set_none : (set : List Bool) → ((s : ℕ) → Has set s → ⊥) → Holds set (Contains [])
-set_none set none s = (λ has. absurd (none s has), λ there. absurd (no_member s there))
+set_none set none s = (λ has. absurd (none s has), λ there. absurd (none_contained s there))
 
 pub set_more : (old new : List Bool) (list : List ℕ) (one : ℕ) → Holds old (Contains list)
     → Holds new (λ s. Has old s ⊎ (s ≡ one)) → Holds new (Contains (list ++ one ∷ []))

@@ -10,7 +10,7 @@ use Rattle.rc_source.specs.Meaning.{Meaning, AreMeanings}
 use Rattle.rc_compile.specs.Along.{IsLeast}
 use Rattle.rc_compile.specs.Pipelines.{IsService, IsLongrun, WritesTo, ReadsFrom, NamesPipeline}
 use Rattle.rc_compile.specs.Standing.{IsKnown}
-use Rattle.rc_compile.proofs.Meanings.{only_one, longrun_is_service}
+use Rattle.rc_compile.proofs.Meanings.{only_one, longrun_is_service, kind_cases}
 use Rattle.rc_compile.specs.declared.book.Book.{Book}
 use Rattle.rc_compile.specs.declared.scan.Sought.TheVariants.{Unknown}
 use Rattle.rc_compile.specs.declared.tables.Which.TheVariants.{Bundles}
@@ -19,7 +19,7 @@ use Rattle.rc_compile.specs.CompileFaults.{HasWrongType, HasNoMatch, HasTakenNam
 use Rattle.rc_compile.specs.CompileFaults.{HasSomeUnknown, Mentions}
 use Rattle.rc_compile.specs.Book.{IsBook, IsShared, IsSought, ShowsUnknown, HasNamed, JoinsOther}
 use Rattle.rc_compile.specs.Book.{IsUnmatched, IsTaken}
-use Rattle.rc_compile.proofs.Defined.{apart, writer_is_service, reader_is_service, bundle_or_not}
+use Rattle.rc_compile.proofs.Defined.{apart, writer_is_service, reader_is_service}
 
 pub same_least : (P Q : List ℕ → Type 0) → ((x : List ℕ) → P x ↔ Q x) → (x : List ℕ)
     → IsLeast P x → IsLeast Q x
@@ -227,7 +227,7 @@ module _ (ms : List Meaning) (book : Book) (are : AreMeanings ms) (is : IsBook m
                 (λ same. let bad : Bundle ≡ Longrun = sym kind ∙ ap (λ y. y.kind) same
                 ∙ names.longrun in cc) (inl (kind, named)) (inr names))))
                 (λ kind. inl (in_services name (x, there, named, kind)))
-                (bundle_or_not x.kind))
+                (kind_cases x.kind))
                 (λ (other, differ, (x, there, named, also)).
                 inr ((is.twice name).1
                 (shared_by x m name there within

@@ -13,7 +13,7 @@ use Rattle.rc_compile.specs.Standing.{IsBundle, HasContent, HasInPipeline, Holds
 use Rattle.rc_compile.specs.Mirror.{Mirrors}
 use Rattle.rc_compile.specs.Joining.{HasAlong}
 use Rattle.rc_compile.specs.Sets.{ArePiped, AreApart, AreSetsOf, HasPiped}
-use Rattle.rc_model.proofs.BundleOrders.{place_of, contains_at}
+use Rattle.rc_model.proofs.Members.{contains_at, place_of}
 use Rattle.rc_compile.proofs.Joins.{up_from_needs}
 use Rattle.rc_compile.proofs.Meanings.{only_one, holder_is_bundle, longrun_is_service}
 

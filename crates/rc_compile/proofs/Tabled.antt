@@ -14,11 +14,11 @@ use Rattle.rc_model.specs.Names.{IsBefore, IsInByteOrder, Has}
 use Rattle.rc_model.specs.Database.{Bundles, names_of, value_of, HaveBound, IsTable}
 use Rattle.rc_db.proofs.Words.{value_of-named}
 use Rattle.rc_db.proofs.Values.{named_by_value}
-use Rattle.rc_model.proofs.ByteOrder.{order_head, order_tail, same_names}
+use Rattle.rc_model.proofs.ByteOrder.{order_head, order_tail, same_names, not_before_itself}
+use Rattle.rc_model.proofs.ByteOrder.{one_place, same_or_other}
+use Rattle.rc_model.proofs.Members.{place_of}
 use Rattle.rc_compile.specs.Joining.{AllWithin}
 use Rattle.rc_compile.specs.Sets.{AreSetsOf}
-use Rattle.rc_model.proofs.BundleOrders.{one_place, place_of, irreflexive}
-use Rattle.rc_compile.proofs.Bridges.{same_or_other}
 
 -- the names of a table in which one name was given a set
 names_after : (old new : Bundles) (name : List ℕ) (value : List Bool)
@@ -136,7 +136,7 @@ below_by_values bound (bundle ∷ rest) up each =
         let there = named_by_value rest name value found in
         let before : IsBefore bundle.0 name = All-contains (IsBefore bundle.0) (names_of rest) name
         (order_head bundle.0 (names_of rest) up) there in
-        absurd (irreflexive name
+        absurd (not_before_itself name
         (subst (λ x. IsBefore x name) (sym ((bytes_eq-Decides name bundle.0).0 same)) before))
     by false name same value found = found
 

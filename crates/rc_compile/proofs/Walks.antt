@@ -8,10 +8,8 @@ use Rattle.rc_model.proofs.SetMembers.{has_or_lacks, has_within}
 use Rattle.rc_model.specs.Graph.{Needs, UpFrom, IsClosed}
 use Rattle.rc_graph.proofs.Paths.{closed_has_up, up_reaches, reaches_one}
 use Rattle.rc_model.proofs.Counting.{no_more_left, fewer_left}
+use Rattle.rc_model.proofs.Members.{none_contained}
 use Rattle.rc_compile.specs.Walking.{Meets}
-
-pub no_member : (s : ℕ) → Contains [] s → ⊥
-no_member s (k, within, here) = omega arith
 
 -- a new id costs what it leaves
 pub new_costs : (old new : List Bool) (id left more : ℕ) → length new ≡ length old
@@ -42,9 +40,21 @@ pub meets_none : (seen : List Bool) (todo : List ℕ) → Meets seen todo [] see
 meets_none seen todo = record {
   bound = refl;
   members =
-      λ s. (λ h. inl h, λ h. elim h [ inl had ↦ had | inr listed ↦ absurd (no_member s listed) ]);
+      λ s. (
+        λ h. inl h,
+        λ h. elim h [
+          | inl had ↦ had
+          | inr listed ↦ absurd (none_contained s listed)
+        ],
+      );
   todo =
-      λ s. (λ h. inl h, λ h. elim h [ inl had ↦ had | inr listed ↦ absurd (no_member s listed.0) ]);
+      λ s. (
+        λ h. inl h,
+        λ h. elim h [
+          | inl had ↦ had
+          | inr listed ↦ absurd (none_contained s listed.0)
+        ],
+      );
   cost = omega arith;
 }
 
@@ -170,7 +180,7 @@ pub walk_ends : (lists : List (List ℕ)) (start : ℕ) (seen : List Bool) (left
 walk_ends lists start seen left walk none s =
     let closed : IsClosed lists (Has seen) = λ a b has need. elim (walk.done a b has need) [
       | inl waits ↦ let empty : Contains [] a = subst (λ xs. Contains xs a) none waits in
-          absurd (no_member a empty)
+          absurd (none_contained a empty)
       | inr there ↦ there
     ] in (
       walk.sound s,
@@ -186,7 +196,3 @@ followed_within lists start at seen all left walk popped =
     subst (λ xs. Contains xs at) (sym popped) (Contains-push left at) in
     let low : at < length seen = has_within seen at (walk.met at there) in
     omega (arith, walk.bound)
-
-pub none_left : (xs : List ℕ) → length xs ≡ 0 → xs ≡ []
-none_left [] none = refl
-none_left (x ∷ xs) none = absurd (omega arith)

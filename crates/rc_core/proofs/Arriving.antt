@@ -16,20 +16,20 @@ use Rattle.std.proofs.lemmas.List.Sums.{count_by-le-length, sum_by-cons}
 use Rattle.std.proofs.lemmas.Map.Keys.{IsDistinct-from_apart}
 use Rattle.std.proofs.lemmas.Map.Steps.{length-le_from_distinct_below}
 use Rattle.rc_model.specs.Names.{IsAscending}
+use Rattle.rc_model.proofs.Members.{none_contained}
 use Rattle.rc_graph.specs.Order.{AreDistinct}
 use Rattle.rc_graph.specs.Placing.{Meets}
 use Rattle.rc_graph.proofs.Orders.{none_met, last_met, more_met, distinct_ascending, not_before}
-use Rattle.rc_graph.proofs.PairLemmas.{no_member}
+use Rattle.rc_graph.proofs.Orders.{distinct_join}
 use Rattle.rc_graph.proofs.Unmet.{contains_any}
 use Rattle.rc_core.specs.declared.ready.Ready.{Ready}
 use Rattle.rc_core.specs.Ready.{IsCount, HasQueue, Arrives}
-use Rattle.rc_core.proofs.Counted.{distinct_both}
 
 -- none of a list
 pub none_arrive : (old : Ready) → Arrives [] old old
 none_arrive old = record {
   those = [];
-  same = λ s. (λ h. absurd (no_member s h), λ h. absurd (no_member s h.0));
+  same = λ s. (λ h. absurd (none_contained s h), λ h. absurd (none_contained s h.0));
   meets = none_met old.queue.items old.waits.items;
   capacity = refl;
 }
@@ -57,7 +57,7 @@ fewer_queued those waits mid_waits queue mid x has meets out low one =
     λ s first second. omega (arith, (has.none s first).1, ((meets.placed s).0 second).1) in
     let once : AreDistinct mid.items =
     subst AreDistinct (sym meets.behind)
-    (distinct_both queue.items meets.more has.once meets.once apart) in
+    (distinct_join queue.items meets.more has.once meets.once apart) in
     let lacks : Contains mid.items x → ⊥ =
     out_of_queue those waits queue mid mid_waits x has meets out (omega (arith, was)) in
     let all : AreDistinct (mid.items ++ x ∷ []) =
@@ -170,7 +170,7 @@ none_counted In = record {
   ids = [];
   lists = record {
     ascending = λ i j d first within. absurd (omega arith);
-    same = λ s. (λ h. absurd (no_member s h), λ h. absurd (no_member s h.0));
+    same = λ s. (λ h. absurd (none_contained s h), λ h. absurd (none_contained s h.0));
   };
   long = refl;
 }
@@ -266,7 +266,7 @@ none_of_them In list none = record {
   ids = [];
   lists = record {
     ascending = λ i j d first within. absurd (omega arith);
-    same = λ s. (λ h. absurd (no_member s h), λ h. absurd (none s h.0 h.1));
+    same = λ s. (λ h. absurd (none_contained s h), λ h. absurd (none s h.0 h.1));
   };
   long = refl;
 }

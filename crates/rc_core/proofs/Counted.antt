@@ -1,12 +1,11 @@
 -- Counts of services: of the same ones, of one less, of none, and of two lists that share none.
 use Rattle.std.proofs.Common.{◌≡◌, ◌≢◌, ◌∙◌, ◌↔◌, ℕ, ◌+◌, ◌-◌, ◌<◌, List, [], ◌∷◌, ◌++◌, Contains}
-use Rattle.std.proofs.Common.{inl, inr, length, slice_index, slice_index_or, refl, take, drop, suc}
+use Rattle.std.proofs.Common.{inl, inr, length, slice_index, take, drop, suc}
 use Rattle.std.proofs.Common.{sym, subst, arith}
 use Rattle.std.specs.List.{remove}
 use Rattle.std.proofs.Math.Seq.{split_at}
-use Rattle.std.proofs.lemmas.Bool.{cases_eq, cases_lt}
-use Rattle.std.proofs.lemmas.List.{get_or_default, length-drop, get_or-drop, get_or_append_left}
-use Rattle.std.proofs.lemmas.List.{get_or-append_right, length-append}
+use Rattle.std.proofs.lemmas.Bool.{cases_eq}
+use Rattle.std.proofs.lemmas.List.{get_or_default, length-drop, get_or-drop}
 use Rattle.std.proofs.lemmas.List.Edits.{length-remove}
 use Rattle.std.proofs.lemmas.List.Elements.{Contains-append_left, Contains-append_right}
 use Rattle.std.proofs.lemmas.List.Elements.{Contains-append_cases, Contains-get_or}
@@ -104,26 +103,3 @@ zero_of_none P n count none = elim (cases_eq n 0) [
 pub some_counts : (P : ℕ → Type 0) (n s : ℕ) → IsCount P n → P s → 0 < n
 some_counts P n s count holds = let at =
     (count.lists.same s).1 holds in omega (arith, at.1, count.long)
-
--- two lists of distinct ids that share none
-pub distinct_both : (xs ys : List ℕ) → AreDistinct xs → AreDistinct ys
-    → ((s : ℕ) → Contains xs s → Contains ys s → ⊥) → AreDistinct (xs ++ ys)
-distinct_both xs ys first second apart i j d low within same =
-    let n : length (xs ++ ys) ≡ length xs + length ys = length-append xs ys in
-    elim (cases_lt j (length xs)) [
-      | inl j_first ↦ let i_first : i < length xs = omega arith in
-          first i j d low j_first
-          (sym (get_or_append_left xs ys d i i_first)
-          ∙ (same ∙ get_or_append_left xs ys d j j_first))
-      | inr j_second ↦
-          let at_j = get_or-append_right xs ys (length xs) j d refl j_second in
-          elim (cases_lt i (length xs)) [
-            | inl i_first ↦
-                let e = sym (get_or_append_left xs ys d i i_first) ∙ (same ∙ at_j) in
-                apart (slice_index_or xs i d) (Contains-get_or xs i d i_first)
-                (subst (Contains ys) (sym e)
-                (Contains-get_or ys (j - length xs) d (omega arith)))
-            | inr i_second ↦ second (i - length xs) (j - length xs) d (omega arith) (omega arith)
-                (sym (get_or-append_right xs ys (length xs) i d refl i_second) ∙ (same ∙ at_j))
-          ]
-    ]

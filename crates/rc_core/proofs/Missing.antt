@@ -1,6 +1,6 @@
 -- What a service still waits for, and how events change it.
 use Rattle.std.proofs.Common.{◌≡◌, ◌≢◌, ◌∙◌, ◌⊎◌, ◌↔◌, ℕ, List, [], ◌∷◌, ◌++◌, true, false}
-use Rattle.std.proofs.Common.{Contains, inl, inr, refl, ap, sym, subst}
+use Rattle.std.proofs.Common.{inl, inr, refl, ap, sym, subst}
 use Rattle.std.proofs.lemmas.Bool.{cases_eq}
 use Rattle.rc_model.specs.Names.{Has}
 use Rattle.rc_model.specs.Graph.{Needs}
@@ -17,7 +17,7 @@ use Rattle.rc_model.proofs.RunLemmas.{taken_was_planned, done_was_taken}
 use Rattle.rc_model.proofs.StandingLemmas.{standing_take_here, standing_take_other}
 use Rattle.rc_model.proofs.StandingLemmas.{standing_done_here, standing_done_other}
 use Rattle.rc_model.proofs.StandingLemmas.{standing_first_up, standing_first_down}
-use Rattle.rc_core.proofs.Stories.{story_of}
+use Rattle.rc_core.proofs.Stories.{story_of, held_stands}
 use Rattle.rc_core.proofs.Places.{move_is_left}
 
 -- what a service that comes up needs does not go down
@@ -43,17 +43,6 @@ fresh_stands c events s run fresh = elim (story_of c events s run) [
   | inr (inl out) ↦ absurd (fresh (out.by, out.holder.0))
   | inr (inr back) ↦ absurd
       (fresh (back.by, done_was_taken c events back.by s back.outcome run back.at))
-]
-
-held_stands : (c : Course) (events : List Event) (w s : ℕ) → IsRun c events → IsHeldBy events w s
-    → standing_of c events s ≡ after_take (standing_of c [] s)
-held_stands c events w s run held = elim (story_of c events s run) [
-  | inl stayed ↦ absurd (stayed.fresh (w, held.0))
-  | inr (inl out) ↦ out.stands
-  | inr (inr back) ↦ absurd
-      (held.1 back.outcome
-      (subst (λ (v : ℕ). Contains events (Done v s back.outcome)) (sym (back.alone w held.0))
-      back.at))
 ]
 
 held_rising : (c : Course) (events : List Event) (w s : ℕ) → IsCourse c → IsRun c events

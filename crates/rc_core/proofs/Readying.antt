@@ -11,6 +11,7 @@ use Rattle.rc_model.specs.Names.{Has}
 use Rattle.rc_model.proofs.SetMembers.{has_or_lacks, is_set_or_not}
 use Rattle.rc_graph.specs.Order.{AreDistinct}
 use Rattle.rc_graph.proofs.Unmet.{contains_or_lacks}
+use Rattle.rc_graph.proofs.Orders.{distinct_join}
 use Rattle.rc_model.specs.declared.Standing.TheVariants.{Down, Up}
 use Rattle.rc_model.specs.declared.Outcome.{Outcome}
 use Rattle.rc_model.specs.declared.Event.{Event}
@@ -21,7 +22,7 @@ use Rattle.rc_model.specs.Run.{CanMove, IsLegal, IsRun}
 use Rattle.rc_model.specs.Beside.{IsCourse}
 use Rattle.rc_core.specs.Ready.{IsCount, IsMissing, AreReady, IsNext, NotesArrival, TakesOut}
 use Rattle.rc_core.specs.Ready.{IsFirstReady, HasQueue, CanNoteReady, NotesReady}
-use Rattle.rc_core.proofs.Counted.{distinct_both, same_count, less_count, none_of_zero}
+use Rattle.rc_core.proofs.Counted.{same_count, less_count, none_of_zero}
 use Rattle.rc_core.proofs.Counted.{zero_of_none, some_counts}
 use Rattle.rc_model.proofs.EventLemmas.{still_there, take_then_take, take_then_done, take_then_stop}
 use Rattle.rc_model.proofs.RunLemmas.{taken_was_planned}
@@ -223,7 +224,7 @@ ready_after_success c events w x o old new course run held well ready notes =
             | inr out ↦ meets.same s out ∙ zero
           ];
       once = subst AreDistinct (sym meets.behind)
-          (distinct_both old.queue.items meets.more ready.once meets.once
+          (distinct_join old.queue.items meets.more ready.once meets.once
           (λ s first second.
           omega (arith, ((ready.ones s).0 first).1, ((meets.placed s).0 second).1)));
       ones = λ s. (

@@ -1,8 +1,8 @@
 -- What a table is after a bundle went in, was written over or was taken out.
-use Rattle.std.proofs.Common.{◌≡◌, ◌∙◌, ◌<◌, ◌≤◌, ℕ, Bool, List, [], ◌∷◌, ◌++◌, length, map, take}
-use Rattle.std.proofs.Common.{drop, insert, remove, set as put, get_or, slice_get, Option, Some}
+use Rattle.std.proofs.Common.{◌≡◌, ◌∙◌, ◌<◌, ◌≤◌, ℕ, Bool, List, [], ◌∷◌, ◌++◌, length}
+use Rattle.std.proofs.Common.{insert, remove, set as put, get_or, slice_get, Option, Some}
 use Rattle.std.proofs.Common.{None, All, refl, ap, sym, subst, arith, length-append}
-use Rattle.std.proofs.lemmas.List.{length-map, length-set, map-append, take-map, drop-map}
+use Rattle.std.proofs.lemmas.List.{length-map, length-set, map-append}
 use Rattle.std.proofs.lemmas.List.Edits.{length-insert}
 use Rattle.std.proofs.lemmas.List.Elements.{All-push}
 use Rattle.std.proofs.lemmas.List.Quantifiers.{all_pairs_push}
@@ -14,13 +14,9 @@ use Rattle.rc_names.specs.Names.{IsGap}
 use Rattle.rc_model.specs.Line.{IsChangedAt}
 use Rattle.rc_model.specs.Names.{IsName, IsBefore, IsInByteOrder}
 use Rattle.rc_model.specs.Database.{Bundles, names_of, value_of, IsTable}
+use Rattle.rc_model.proofs.Mapped.{map-insert}
 use Rattle.rc_db.proofs.Values.{changed_at, insert_new, value_of-absent, set_at, names_of-put}
 use Rattle.rc_db.proofs.Values.{value_at, remove_at, take_out, table_without}
-
-map-insert : {X Y : Type 0} (f : X → Y) (xs : List X) (i : ℕ) (x : X)
-    → map f (insert xs i x) ≡ insert (map f xs) i (f x)
-map-insert f xs i x = map-append f (take i xs) (x ∷ drop i xs)
-    ∙ (λ n. sym (take-map f i xs) n ++ f x ∷ sym (drop-map f i xs) n)
 
 -- a table that is changed under one name
 pub record IsChangedTable (table : Bundles) (name : List ℕ) (value : Option (List Bool))

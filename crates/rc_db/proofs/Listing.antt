@@ -10,9 +10,8 @@ use Rattle.std.proofs.lemmas.List.Elements.{Contains-append_left, Contains-get_o
 use Rattle.std.proofs.lemmas.List.Quantifiers.{all_pairs_push}
 use Rattle.std.proofs.lemmas.Option.{slice_get-get_or, slice_get_within}
 use Rattle.std.specs.Bool.{OnFalse}
-use Rattle.std.specs.Cmp.Lexicographic.{slice_cmp, texts_ties}
-use Rattle.std.specs.Ordering.{nat_cmp, is_lt, is_eq, ordering_reverse}
-use Rattle.std.specs.Str.{bytes_eq}
+use Rattle.std.specs.Cmp.Lexicographic.{slice_cmp}
+use Rattle.std.specs.Ordering.{nat_cmp, is_lt}
 use Rattle.std.specs.declared.cmp.Ordering.{Ordering}
 use Rattle.std.specs.declared.cmp.Ordering.TheVariants.{Less, Equal, Greater}
 use Rattle.rc_model.proofs.ByteOrder.{before_at}
@@ -23,17 +22,6 @@ use Rattle.rc_db.specs.Merging.{IsNext}
 use Rattle.rc_model.specs.Database.{Database, IsKind, Service}
 use Rattle.rc_db.specs.Queries.{IsServiceNamed}
 use Rattle.rc_model.proofs.Places.{take_next}
-
--- a text that is neither after nor equal to another is before it
-pub before_from : (a b : List ℕ) → is_lt (slice_cmp nat_cmp b a) ≡ false → bytes_eq a b ≡ false
-    → IsBefore a b
-before_from a b not_after differ = by (slice_cmp nat_cmp a b) refl
-  where
-    by : (o : Ordering) → slice_cmp nat_cmp a b ≡ o → o ≡ Less
-    by Less e = refl
-    by Equal e = absurd (true≢false (sym (texts_ties a b ∙ ap is_eq e) ∙ differ))
-    by Greater e = absurd (true≢false (sym (ap is_lt (nat_list_cmp_total.antisymm b a
-        ∙ ap ordering_reverse e)) ∙ not_after))
 
 -- the first names of two lists, merged, and all others after them
 pub record Merged (ns os : List (List ℕ)) (i j : ℕ) (out : List (List ℕ)) : Type 0 where

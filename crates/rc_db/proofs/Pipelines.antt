@@ -144,6 +144,12 @@ one_more_passed P old new i holds more t = (
       (cases_lt t i),
 )
 
+-- one more service, of which it does not hold
+pub left_out : (P : ℕ → Type 0) (set : List Bool) (i : ℕ) → (P i → ⊥)
+    → Holds set (λ s. (s < i) × P s) → Holds set (λ s. (s < i + 1) × P s)
+left_out P set i fails passed = one_more_passed P set set i passed
+    (λ s. (λ has. inl has, λ cases. ⊎_elim (λ in_set. in_set) (λ is. absurd (fails is.1)) cases))
+
 -- what stands in the order is a service
 pub order_within : (d : Database) (graph : List (List ℕ)) (order : List ℕ) (i : ℕ) → IsDatabase d
     → graph ≡ d.needs → IsOrder graph order → i < length order

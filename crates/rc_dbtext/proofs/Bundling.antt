@@ -1,5 +1,5 @@
 -- Sets and their members, and a table that a bundle is added to.
-use Rattle.std.proofs.Common.{◌≡◌, ◌∙◌, ◌<◌, ◌⊎◌, inl, inr, ℕ, zero, suc, Bool, true, false, cond}
+use Rattle.std.proofs.Common.{◌≡◌, ◌∙◌, ◌<◌, inl, inr, ℕ, zero, suc, Bool, true, false, cond}
 use Rattle.std.proofs.Common.{List, [], ◌∷◌, ◌++◌, length, map, get_or, Contains, Some, None, All}
 use Rattle.std.proofs.Common.{refl, ap, sym, subst, arith}
 use Rattle.std.proofs.lemmas.Bool.{false≢true}
@@ -14,19 +14,8 @@ use Rattle.rc_model.specs.Database.{Bundles, names_of, value_of, IsTable}
 use Rattle.rc_dbtext.specs.Parts.{IsNamed}
 use Rattle.rc_dbtext.specs.Spelling.{members, name_at}
 use Rattle.rc_model.proofs.ByteOrder.{not_before_itself}
+use Rattle.rc_model.proofs.Members.{contains_first, contains_later, contains_cases}
 use Rattle.rc_dbtext.proofs.Naming.{mapped_member, member_mapped, named_back}
-
--- the first of a list, or one of the rest
-at_head : {X : Type 0} (x : X) (xs : List X) → Contains (x ∷ xs) x
-at_head x xs = (0, omega arith, refl)
-
-at_rest : {X : Type 0} (x : X) (xs : List X) (y : X) → Contains xs y → Contains (x ∷ xs) y
-at_rest x xs y (k, within, is) = (suc k, omega arith, is)
-
-head_or_rest : {X : Type 0} (x : X) (xs : List X) (y : X) → Contains (x ∷ xs) y
-    → (x ≡ y) ⊎ Contains xs y
-head_or_rest x xs y (zero, within, is) = inl is
-head_or_rest x xs y (suc k, within, is) = inr (k, omega arith, is)
 
 -- members are what a set has
 has_later : (set : List Bool) → ((m : ℕ) → Contains (members set) m → Has set m) → (s : ℕ)
@@ -35,7 +24,7 @@ has_later set each s has = let m = member_mapped suc (members set) s has in (m.0
 
 pub has_member : (set : List Bool) (s : ℕ) → Contains (members set) s → Has set s
 has_member [] s (k, within, is) = absurd (omega arith)
-has_member (true ∷ rest) s has = elim (head_or_rest 0 (map suc (members rest)) s has) [
+has_member (true ∷ rest) s has = elim (contains_cases 0 (map suc (members rest)) s has) [
   | inl first ↦ subst (Has (true ∷ rest)) first refl
   | inr later ↦
       let m = has_later rest (has_member rest) s later in subst (Has (true ∷ rest)) m.2 m.1
@@ -45,9 +34,9 @@ has_member (false ∷ rest) s has =
 
 pub member_has : (set : List Bool) (s : ℕ) → Has set s → Contains (members set) s
 member_has [] s has = absurd (false≢true has)
-member_has (true ∷ rest) zero has = at_head 0 (map suc (members rest))
+member_has (true ∷ rest) zero has = contains_first 0 (map suc (members rest))
 member_has (true ∷ rest) (suc s) has =
-    at_rest 0 (map suc (members rest)) (suc s)
+    contains_later 0 (map suc (members rest)) (suc s)
     (mapped_member suc (members rest) s (member_has rest s has))
 member_has (false ∷ rest) zero has = absurd (false≢true has)
 member_has (false ∷ rest) (suc s) has = mapped_member suc (members rest) s (member_has rest s has)
@@ -136,7 +125,7 @@ module _ (name : List ℕ) (set : List Bool) where
           → (value_of table name ≡ Some set → Contains (names_of table) name)
           → Contains (names_of (bundle ∷ table)) name
       by true e found later = (0, omega arith, sym ((bytes_eq-Decides name bundle.0).0 e))
-      by false e found later = at_rest bundle.0 (names_of table) name (later found)
+      by false e found later = contains_later bundle.0 (names_of table) name (later found)
 
   -- a table in which a name after all others has a set is the old one and that bundle
   pub added_last : ((a b : Bundles) → IsTable a → IsTable b

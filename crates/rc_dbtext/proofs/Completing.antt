@@ -11,7 +11,7 @@ use Rattle.rc_dbtext.specs.Parts.{AreBundlesComplete, AreKnown, AreServicesCompl
 use Rattle.rc_dbtext.specs.Parts.{IsKnown}
 use Rattle.rc_dbtext.specs.Spelling.{name_at}
 use Rattle.rc_model.proofs.ByteOrder.{one_place}
-use Rattle.rc_dbtext.proofs.Naming.{place_of}
+use Rattle.rc_model.proofs.Members.{place_of}
 
 -- both halves together, over the names of the services
 pub own_complete : (t : DbText) → AreServicesComplete (service_names t.services) t.services

@@ -1,16 +1,7 @@
 -- Where a text of known length stands in front of others, it is one.
-use Rattle.std.proofs.Common.{◌≡◌, ◌∙◌, ℕ, List, [], ◌∷◌, ◌++◌, length, get_or, arith, refl}
-use Rattle.std.proofs.Common.{sym, ap, append_assoc}
-
-pub cut_once : (a b x y : List ℕ) → length a ≡ length b → a ++ x ≡ b ++ y → (a ≡ b) × (x ≡ y)
-cut_once [] [] x y long same = (refl, same)
-cut_once [] (d ∷ b) x y long same = absurd (omega arith)
-cut_once (c ∷ a) [] x y long same = absurd (omega arith)
-cut_once (c ∷ a) (d ∷ b) x y long same =
-    let heads : c ≡ d = cc in
-    let rest = cut_once a b x y (omega arith) cc in
-    let tails : a ≡ b = rest.0 in
-    (cc, rest.1)
+use Rattle.std.proofs.Common.{◌≡◌, ◌∙◌, ℕ, List, [], ◌∷◌, ◌++◌, length, get_or, refl}
+use Rattle.std.proofs.Common.{sym, append_assoc}
+use Rattle.rc_model.proofs.Lists.{cut_once}
 
 at_end : (text rest : List ℕ) (byte d : ℕ) → get_or (text ++ byte ∷ rest) (length text) d ≡ byte
 at_end [] rest byte d = refl

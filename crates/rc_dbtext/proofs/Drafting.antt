@@ -1,9 +1,9 @@
 -- What a draft has after the needs of some services were added.
 use Rattle.std.proofs.Common.{◌≡◌, ◌∙◌, ℕ, ◌+◌, ◌<◌, ◌≤◌, ◌↔◌, ◌⊎◌, inl, inr, List, [], ◌∷◌, ◌++◌}
-use Rattle.std.proofs.Common.{length, map, replicate, get_or, slice_get, slice_index_or, Some, None}
+use Rattle.std.proofs.Common.{length, map, replicate, get_or, slice_get, Some, None}
 use Rattle.std.proofs.Common.{All, Contains, Bool, true, arith, refl, sym, ap, subst}
 use Rattle.std.proofs.lemmas.Bool.{cases_lt}
-use Rattle.std.proofs.lemmas.List.{length-map, length-replicate, get_or-map, get_or-replicate}
+use Rattle.std.proofs.lemmas.List.{length-map, length-replicate, get_or-map}
 use Rattle.std.proofs.lemmas.List.{get_or_default, get_or_past, same_lists, map-append}
 use Rattle.std.proofs.lemmas.List.Elements.{Contains-append_left, Contains-get_or, Contains-push}
 use Rattle.std.proofs.lemmas.List.Elements.{Contains-push_cases}
@@ -11,6 +11,7 @@ use Rattle.rc_model.specs.declared.Kind.TheVariants as kinds
 use Rattle.rc_model.specs.Names.{Has, Holds, IsInByteOrder}
 use Rattle.rc_model.specs.Graph.{Needs, AreNeeds, EachNeedsNext}
 use Rattle.rc_graph.specs.Cycle.{IsCycle}
+use Rattle.rc_graph.proofs.RowLemmas.{no_need}
 use Rattle.rc_dbtext.specs.Text.{ServiceText, OfLongrun}
 use Rattle.rc_dbtext.specs.Meaning.{service_names, EachNeedsNextByName, IsCyclic, NeedsByName}
 use Rattle.rc_dbtext.specs.Parts.{AreNeedsOf, IsNamed}
@@ -118,17 +119,6 @@ pub record HasDrafted (names : List (List ℕ)) (services : List ServiceText) (d
       → Needs draft s t ↔ IsNamed names (get_or services s no_service).needs t
   pub left : (s t : ℕ) → end ≤ s → Needs draft s t → ⊥
 
-needs_none : (n s t : ℕ) → Needs (replicate n []) s t → ⊥
-needs_none n s t need =
-    let none : List (List ℕ) = replicate n [] in
-    let empty : slice_index_or none s [] ≡ [] = elim (cases_lt s n) [
-      | inl low ↦ get_or-replicate n s [] [] low
-      | inr past ↦ get_or_past none s [] (omega (arith, length-replicate {A = List ℕ} n []))
-    ] in
-    let has : Contains [] t = subst (λ (xs : List ℕ). Contains xs t) empty need in
-    let within : has.0 < 0 = has.1 in
-    omega arith
-
 -- no service is in
 pub drafted_none : (names : List (List ℕ)) (services : List ServiceText) (count : ℕ)
     → count ≡ length services → HasDrafted names services (replicate count []) 0
@@ -136,7 +126,7 @@ drafted_none names services count all =
     record {
       bound = length-replicate {A = List ℕ} count [] ∙ all;
       done = λ s t low. absurd (omega arith);
-      left = λ s t past h. needs_none count s t h;
+      left = λ s t past h. no_need count s t h;
     }
 
 -- one more service is in

@@ -22,7 +22,8 @@ use Rattle.rc_dbtext.specs.Spelling.{bundle_text, head_of, members, name_at, ser
 use Rattle.rc_dbtext.specs.Spelling.{service_texts, text_of}
 use Rattle.rc_dbtext.proofs.Zips.{zip_at, zip_length}
 use Rattle.rc_model.proofs.ByteOrder.{one_place}
-use Rattle.rc_dbtext.proofs.Naming.{mapped_member, member_mapped, place_of}
+use Rattle.rc_model.proofs.Members.{place_of}
+use Rattle.rc_dbtext.proofs.Naming.{mapped_member, member_mapped}
 use Rattle.rc_dbtext.proofs.Drafting.{no_service, row_at}
 
 one_text : (names : List (List ℕ)) (text : ServiceText) (name : List ℕ) (s : Service)

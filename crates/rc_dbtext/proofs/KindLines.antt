@@ -1,8 +1,7 @@
 -- The kinds of lines: the words of each are words, and each is read once.
 use Rattle.std.proofs.Common.{◌≡◌, ◌∙◌, ℕ, ◌<◌, ◌≤◌, ◌^◌, Bool, true, false, List, [], ◌∷◌, ◌++◌}
-use Rattle.std.proofs.Common.{length, get_or, drop, All, Option, Some, None, IfSome, zero, suc}
+use Rattle.std.proofs.Common.{length, get_or, drop, All, Option, Some, None, IfSome}
 use Rattle.std.proofs.Common.{arith, refl, sym, ap, subst}
-use Rattle.std.proofs.lemmas.Bool.{false≢true}
 use Rattle.std.proofs.lemmas.Fmt.{decimal_injective}
 use Rattle.std.proofs.lemmas.Str.{IsUtf8-from_ascii}
 use Rattle.std.proofs.lemmas.Str.Ascii.{IsAscii-from_all}
@@ -10,7 +9,8 @@ use Rattle.std.specs.Prelude.{codes}
 use Rattle.std.specs.Fmt.{decimal}
 use Rattle.rc_model.specs.declared.Kind.{Kind}
 use Rattle.rc_model.specs.declared.Kind.TheVariants as kinds
-use Rattle.rc_model.specs.Names.{IsName, IsNameByte}
+use Rattle.rc_model.specs.Names.{IsName}
+use Rattle.rc_model.proofs.Lists.{word_at}
 use Rattle.rc_db.specs.Service.{IsScript}
 use Rattle.rc_dbtext.specs.Text.{First, ServiceCount, OfService, OfNeeds, OfProducer, OfUp}
 use Rattle.rc_dbtext.specs.Text.{OfDown}
@@ -21,7 +21,7 @@ use Rattle.rc_dbtext.specs.LineValues.{IsPlain, ArePlain, IsOfWords, IsOfNoWords
 use Rattle.rc_dbtext.proofs.Sequences.{IsOnce}
 use Rattle.rc_dbtext.proofs.Numbers.{IsNumber-decimal}
 use Rattle.rc_dbtext.proofs.NumberWords.{plain_numbered}
-use Rattle.rc_dbtext.proofs.Plain.{plain_from, plain_name, plain_names, plain_words}
+use Rattle.rc_dbtext.proofs.Plain.{plain_from, plain_name, plain_names, plain_words, IsName-a}
 use Rattle.rc_dbtext.proofs.Plain.{plain_decimal, no_words}
 use Rattle.rc_dbtext.proofs.LineWords.{each_cons}
 use Rattle.rc_dbtext.proofs.LineReads.{IsKind}
@@ -108,10 +108,6 @@ plain_bundle bundle is =
 
 pub plain_last : ArePlain (words Last)
 plain_last = plain_words (codes "end") [] (plain_from (codes "end") refl) no_words
-
--- the word at a place of equal lists
-word_at : (k : ℕ) (ws vs : List (List ℕ)) → ws ≡ vs → get_or ws k [] ≡ get_or vs k []
-word_at k ws vs same = ap (λ (l : List (List ℕ)). get_or l k []) same
 
 kind_once : (a b : Kind) → kind_word a ≡ kind_word b → a ≡ b
 kind_once kinds.Oneshot kinds.Oneshot same = refl
@@ -247,29 +243,6 @@ pub same_length : (text long : List ℕ) (n : ℕ) → long ≡ decimal (length 
     → n ≤ 65536 → IsScript text → length text ≡ n
 same_length text long n written is few script =
     decimal_injective (length text) n (omega (arith, script.short)) (omega arith) (sym written ∙ is)
-
--- some name
-pub IsName-a : IsName (codes "a")
-IsName-a = record {
-  some = omega arith;
-  short = omega arith;
-  bytes = record {
-    each = name_byte;
-    no_option = λ same. omega (arith, same);
-    no_comment =
-        λ same. omega (arith, same);
-  };
-  unreserved = λ reserved. false≢true reserved;
-  utf8 = IsUtf8-from_ascii (codes "a") (IsAscii-from_all (codes "a") low);
-}
-  where
-    name_byte : All IsNameByte (codes "a")
-    name_byte zero d within = (omega arith, omega arith, omega arith)
-    name_byte (suc k) d within = absurd (omega arith)
-
-    low : All (λ b. b < 128) (codes "a")
-    low zero d within = omega arith
-    low (suc k) d within = absurd (omega arith)
 
 -- the empty text
 pub IsScript-none : IsScript []

@@ -6,11 +6,8 @@ use Rattle.std.proofs.lemmas.List.Elements.{All-head, All-tail}
 use Rattle.std.proofs.lemmas.Bool.{false≢true}
 use Rattle.std.proofs.lemmas.List.Splits.{slice_split-cons_yes, slice_split-cons_no}
 use Rattle.std.specs.List.{join_with_byte, slice_split, onto_first}
+use Rattle.std.proofs.lemmas.List.{append_cancel_left}
 use Rattle.rc_dbtext.specs.Words.{IsPlain, ArePlain, line_of_words}
-
-pub append-cancel : (text x y : List ℕ) → text ++ x ≡ text ++ y → x ≡ y
-append-cancel [] x y same = same
-append-cancel (c ∷ text) x y same = append-cancel text x y cc
 
 -- here a word ends
 abbrev Ends : List ℕ → Type 0
@@ -65,7 +62,7 @@ words_left (a ∷ ws) [] x y plain_ws plain_vs same =
     absurd (omega (arith, ap (λ (l : List ℕ). get_or l 0 0) same))
 words_left (a ∷ ws) (b ∷ vs) x y plain_ws plain_vs same =
     let tails : line_of_words (a ∷ ws) ++ x ≡ line_of_words (b ∷ vs) ++ y =
-    append-cancel (32 ∷ []) (line_of_words (a ∷ ws) ++ x) (line_of_words (b ∷ vs) ++ y) same in
+    append_cancel_left (32 ∷ []) (line_of_words (a ∷ ws) ++ x) (line_of_words (b ∷ vs) ++ y) same in
     let first = one_plain a b (behind_first ws x) (behind_first vs y)
     (All-head IsPlain a ws plain_ws) (All-head IsPlain b vs plain_vs) (ends_behind ws x)
     (ends_behind vs y)

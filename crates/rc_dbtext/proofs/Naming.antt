@@ -3,20 +3,12 @@ use Rattle.std.proofs.Common.{◌≡◌, ◌∙◌, ℕ, ◌<◌, ◌↔◌, Lis
 use Rattle.std.proofs.Common.{Some, All, Contains, arith, sym, ap, subst}
 use Rattle.std.proofs.lemmas.List.{get_or-map, length-map}
 use Rattle.std.proofs.lemmas.List.Elements.{Contains-get_or, All-contains}
-use Rattle.std.proofs.lemmas.Option.{slice_get_within, slice_get-get_or, get_or_from_slice_get}
+use Rattle.std.proofs.lemmas.Option.{slice_get_within, get_or_from_slice_get}
 use Rattle.rc_model.specs.Names.{IsAscending, IsInByteOrder}
 use Rattle.rc_dbtext.specs.Parts.{IsNamed}
 use Rattle.rc_dbtext.specs.Spelling.{name_at}
 use Rattle.rc_model.proofs.ByteOrder.{same_names}
-
--- a member stands at some place
-pub place_of : {X : Type 0} (xs : List X) (x : X) → Contains xs x
-    → (k : ℕ) × (slice_get xs k ≡ Some x)
-place_of xs x (k, within, is) = (k, slice_get-get_or xs k x within ∙ ap Some is)
-
--- and what stands at a place is a member
-pub member_at : {X : Type 0} (xs : List X) (k : ℕ) (x : X) → slice_get xs k ≡ Some x → Contains xs x
-member_at xs k x at = (k, slice_get_within xs k x at, get_or_from_slice_get xs k x x at)
+use Rattle.rc_model.proofs.Members.{place_of}
 
 -- what stands at a place of names is its name
 pub at_named : (names : List (List ℕ)) (s : ℕ) (name : List ℕ) → slice_get names s ≡ Some name

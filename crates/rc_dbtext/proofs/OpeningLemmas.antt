@@ -1,6 +1,6 @@
 -- A database with its input, and a refused text as why there is none.
 use Rattle.std.proofs.Common.{◌≡◌, ◌∙◌, ◌⊎◌, ◌++◌, ℕ, List, [], Option, None, Some, IfSome, IfErr}
-use Rattle.std.proofs.Common.{IfOk, Result, Ok, Err, arith, inl, inr, length, refl, subst, sym}
+use Rattle.std.proofs.Common.{Result, Ok, Err, arith, inl, inr, length, refl, subst, sym}
 use Rattle.std.specs.Result.{IsErrAnd}
 use Rattle.rc_model.specs.Database.{Database, IsDatabase}
 use Rattle.rc_db.specs.Database.{IsWritable}
@@ -41,12 +41,6 @@ refused_in base None after wrong input reads fault = tt
 refused_in (Some bytes) (Some all) after wrong input reads fault = fault
 refused_in None (Some all) after wrong input reads fault =
     subst (λ (bytes : List ℕ). IsTextFault None bytes wrong) reads.0 fault
-
--- what a question mark hands on is no success
-pub no_value : {T E : Type 0} (result : Result T E) (fault : E) (P : T → Type 0)
-    → IsErrAnd result (λ e. e ≡ fault) → IfOk result P
-no_value (Ok x) fault P is = absurd is
-no_value (Err e) fault P is = tt
 
 -- an input that was not read whole is why there is no database with it, where no base is wrong
 pub input_handed : {T : Type 0} (result : Result T OpenFault)

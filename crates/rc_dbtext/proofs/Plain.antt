@@ -1,10 +1,12 @@
 -- Words that are plain.
 use Rattle.std.proofs.Common.{◌≡◌, ◌∙◌, ℕ, ◌<◌, ◌^◌, Bool, true, false, List, [], ◌∷◌, get_or, ◌==◌}
-use Rattle.std.proofs.Common.{eq-eqb, All, arith, refl, sym}
+use Rattle.std.proofs.Common.{eq-eqb, All, arith, refl, sym, zero, suc}
 use Rattle.std.proofs.lemmas.Bool.{false≢true}
-use Rattle.std.specs.Prelude.{if◌then◌else◌}
+use Rattle.std.specs.Prelude.{if◌then◌else◌, codes}
 use Rattle.std.specs.Fmt.{decimal}
-use Rattle.rc_model.specs.Names.{IsName}
+use Rattle.std.proofs.lemmas.Str.{IsUtf8-from_ascii}
+use Rattle.std.proofs.lemmas.Str.Ascii.{IsAscii-from_all}
+use Rattle.rc_model.specs.Names.{IsName, IsNameByte}
 use Rattle.rc_dbtext.specs.Words.{IsPlain, ArePlain, IsNumber}
 use Rattle.rc_dbtext.proofs.LineWords.{plain_cons, each_cons}
 use Rattle.rc_dbtext.proofs.Numbers.{IsNumber-decimal}
@@ -49,3 +51,26 @@ pub plain_words : (word : List ℕ) (others : List (List ℕ)) → IsPlain word 
     → ArePlain (word ∷ others)
 plain_words word others plain each =
     record { some = omega arith; each = each_cons word others plain each }
+
+-- some name
+pub IsName-a : IsName (codes "a")
+IsName-a = record {
+  some = omega arith;
+  short = omega arith;
+  bytes = record {
+    each = name_byte;
+    no_option = λ same. omega (arith, same);
+    no_comment =
+        λ same. omega (arith, same);
+  };
+  unreserved = λ reserved. false≢true reserved;
+  utf8 = IsUtf8-from_ascii (codes "a") (IsAscii-from_all (codes "a") low);
+}
+  where
+    name_byte : All IsNameByte (codes "a")
+    name_byte zero d within = (omega arith, omega arith, omega arith)
+    name_byte (suc k) d within = absurd (omega arith)
+
+    low : All (λ b. b < 128) (codes "a")
+    low zero d within = omega arith
+    low (suc k) d within = absurd (omega arith)

@@ -5,11 +5,11 @@ use Rattle.std.proofs.Common.{length, take, drop, All, zero, suc, arith, refl, s
 use Rattle.std.proofs.Common.{append_assoc, length-append}
 use Rattle.std.proofs.lemmas.Bool.{cases_lt}
 use Rattle.std.proofs.lemmas.List.{append-nil, take-append-le, take-append-drop, take_all}
+use Rattle.std.proofs.lemmas.List.{append_cancel_left}
 use Rattle.std.proofs.lemmas.List.Concat.{flat_map-append}
 use Rattle.std.proofs.lemmas.List.Elements.{All-head, All-tail}
 use Rattle.std.proofs.Math.Seq.{take-append-add}
 use Rattle.std.specs.List.{flat_map}
-use Rattle.rc_dbtext.proofs.LineWords.{append-cancel}
 use Rattle.rc_dbtext.proofs.Stuck as stuck_at
 use Rattle.rc_dbtext.specs.declared.syntax.fault.FormFault.{FormFault}
 use Rattle.rc_dbtext.specs.declared.syntax.fault.FormFault.TheVariants.{Bad, Version, TooMany}
@@ -112,7 +112,7 @@ module _ {A B C : Type 0} (IsA : A → Type 0) (lines_a : A → List Line) (IsB 
       ∙ ap (λ (ls : List Line). spells ls
       ++ (spells (take (n - length (lines_a c)) (lines_b b)) ++ tail)) all in (
         one,
-        append-cancel (spells (lines_a a)) x
+        append_cancel_left (spells (lines_a a)) x
             (spells (take (n - length (lines_a a)) (lines_b b)) ++ tail)
             (subst Behind (sym one) cut),
       )
@@ -340,6 +340,6 @@ read_once {A} Is lines once a b x y is_a is_b same =
     let value : a ≡ b = once a b n x y is_a is_b (omega arith)
     (same ∙ ap (λ (ls : List Line). spells ls ++ y) (sym all)) in (
       value,
-      append-cancel (spells (lines a)) x y
+      append_cancel_left (spells (lines a)) x y
           (same ∙ ap (λ (v : A). spells (lines v) ++ y) (sym value)),
     )

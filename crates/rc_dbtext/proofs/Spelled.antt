@@ -22,7 +22,9 @@ use Rattle.rc_dbtext.specs.Meaning.{IsLongrunName, IsSorted, NeedsByName, servic
 use Rattle.rc_dbtext.specs.Spelling.{body_of, bundle_text, members, name_at, service_text}
 use Rattle.rc_dbtext.specs.Spelling.{service_texts, text_of}
 use Rattle.rc_model.proofs.ByteOrder.{one_place}
-use Rattle.rc_dbtext.proofs.Naming.{mapped_member, member_at, member_mapped, names_ascend, place_of}
+use Rattle.rc_model.proofs.Members.{place_of, contains_at}
+use Rattle.rc_model.proofs.SetMembers.{has_within}
+use Rattle.rc_dbtext.proofs.Naming.{mapped_member, member_mapped, names_ascend}
 use Rattle.rc_dbtext.proofs.Bundling.{has_member, members_ascend}
 use Rattle.rc_dbtext.proofs.Joining.{names_of_bundles}
 
@@ -94,12 +96,6 @@ text_there names (n ∷ own) (x ∷ services) (r ∷ lists) zero name s row name
     λ k. Some (service_text names (a k) (b k) (c k))
 text_there names (n ∷ own) (x ∷ services) (r ∷ lists) (suc k) name s row named here listed =
     text_there names own services lists k name s row named here listed
-
--- what a set has is below its bound
-pub has_low : (set : List Bool) (s : ℕ) → Has set s → s < length set
-has_low [] s has = absurd (false≢true has)
-has_low (flag ∷ set) zero has = omega arith
-has_low (flag ∷ set) (suc s) has = let low : s < length set = has_low set s has in omega arith
 
 some_script : (o : Option (List ℕ)) → IsSome o → IfSome o IsScript → IsScript (unwrap_or o [])
 some_script None some is = absurd (false≢true some)
@@ -215,7 +211,7 @@ module _ (d : Database) (is : IsDatabase d) (writable : IsWritable d) where
       let has : Has set (get_or (members set) j f) =
       has_member set (get_or (members set) j f) (Contains-get_or (members set) j f inside) in
       let bound : length set ≡ length d.names = is.fit.bounds k e within in
-      omega (arith, has_low set (get_or (members set) j f) has)
+      omega (arith, has_within set (get_or (members set) j f) has)
 
   each_bundle : All IsBundleText (map (bundle_text d.names) d.table)
   each_bundle = All-map IsBundleText (bundle_text d.names) d.table (λ k e within. record {
@@ -261,7 +257,7 @@ module _ (d : Database) (is : IsDatabase d) (writable : IsWritable d) where
       slice_get-get_or d.names t [] within in
       let text : ServiceText = service_text d.names (name_at d.names t) s found.2 in (
         text,
-        member_at texts t text
+        contains_at texts t text
             (text_there d.names d.names d.services d.needs t (name_at d.names t) s found.2
             name here found.5),
         refl,

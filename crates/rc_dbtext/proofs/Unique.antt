@@ -1,5 +1,5 @@
 -- A text is that of one database: places and sets are known by the names of their services.
-use Rattle.std.proofs.Common.{◌≡◌, ◌≢◌, ◌∙◌, ℕ, ◌<◌, Bool, true, false, List, [], ◌∷◌, length, map}
+use Rattle.std.proofs.Common.{◌≡◌, ◌≢◌, ◌∙◌, ℕ, ◌<◌, Bool, false, List, [], ◌∷◌, length, map}
 use Rattle.std.proofs.Common.{get_or, slice_get, Some, None, Option, IfSome, IsSome, All, Contains}
 use Rattle.std.proofs.Common.{unwrap_or, arith, refl, sym, ap, subst}
 use Rattle.std.proofs.lemmas.Bool.{false≢true}
@@ -7,6 +7,7 @@ use Rattle.std.proofs.lemmas.List.{ext_get_or}
 use Rattle.std.proofs.lemmas.List.Elements.{All-head, All-tail, Contains-get_or}
 use Rattle.std.proofs.lemmas.Option.{slice_get-get_or}
 use Rattle.std.specs.Option.{option_map}
+use Rattle.std.specs.Cmp.{both_ways}
 use Rattle.rc_model.specs.declared.Kind.{Kind}
 use Rattle.rc_model.specs.declared.Kind.TheVariants as kinds
 use Rattle.rc_model.specs.Names.{IsInByteOrder}
@@ -18,8 +19,9 @@ use Rattle.rc_dbtext.specs.Meaning.{service_names}
 use Rattle.rc_dbtext.specs.Spelling.{body_of, bundle_text, members, name_at, service_text}
 use Rattle.rc_dbtext.specs.Spelling.{service_texts, text_of}
 use Rattle.rc_model.proofs.ByteOrder.{one_place}
+use Rattle.rc_model.proofs.SetMembers.{has_within}
 use Rattle.rc_dbtext.proofs.Bundling.{has_member, member_has}
-use Rattle.rc_dbtext.proofs.Spelled.{below, fed_low, has_low, named_texts}
+use Rattle.rc_dbtext.proofs.Spelled.{below, fed_low, named_texts}
 
 pub head_once : {X : Type 0} (x y : X) (xs ys : List X) → x ∷ xs ≡ y ∷ ys → x ≡ y
 head_once x y xs ys same = cc
@@ -27,16 +29,10 @@ head_once x y xs ys same = cc
 pub tail_once : {X : Type 0} (x y : X) (xs ys : List X) → x ∷ xs ≡ y ∷ ys → xs ≡ ys
 tail_once x y xs ys same = cc
 
--- two flags that are set alike
-alike : (a b : Bool) → (a ≡ true → b ≡ true) → (b ≡ true → a ≡ true) → a ≡ b
-alike true b up down = sym (up refl)
-alike false true up down = absurd (false≢true (down refl))
-alike false false up down = refl
-
 -- sets of one bound with the same members are one
 pub flags_once : (a b : List Bool) → length a ≡ length b → members a ≡ members b → a ≡ b
 flags_once a b long same =
-    ext_get_or false a b long (λ k within. alike (get_or a k false) (get_or b k false)
+    ext_get_or false a b long (λ k within. both_ways (get_or a k false) (get_or b k false)
     (λ has. has_member b k (subst (λ (ids : List ℕ). Contains ids k) same (member_has a k has)))
     (λ has. has_member a k
     (subst (λ (ids : List ℕ). Contains ids k) (sym same) (member_has b k has))))
@@ -180,7 +176,7 @@ module _ (names : List (List ℕ)) (order : IsInByteOrder names) where
   pub members_low : (set : List Bool) → length set ≡ length names
       → All (λ t. t < length names) (members set)
   members_low set long k d within =
-      let low : get_or (members set) k d < length set = has_low set (get_or (members set) k d)
+      let low : get_or (members set) k d < length set = has_within set (get_or (members set) k d)
       (has_member set (get_or (members set) k d) (Contains-get_or (members set) k d within)) in
       omega arith
 

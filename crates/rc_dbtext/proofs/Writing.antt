@@ -21,9 +21,10 @@ use Rattle.rc_dbtext.specs.Lines.{bundles_part, services_part}
 use Rattle.rc_dbtext.specs.Spelling.{body_of, bundle_text, head_of, members, name_at, service_text}
 use Rattle.rc_dbtext.specs.Spelling.{service_texts, spelling, text_of}
 use Rattle.rc_model.proofs.ByteOrder.{one_place}
+use Rattle.rc_model.proofs.SetMembers.{has_within}
 use Rattle.rc_dbtext.proofs.Naming.{mapped_member, member_mapped, named_back, names_ascend}
 use Rattle.rc_dbtext.proofs.Bundling.{has_member, member_has, members_ascend}
-use Rattle.rc_dbtext.proofs.Spelled.{has_low, named_texts, text_there}
+use Rattle.rc_dbtext.proofs.Spelled.{named_texts, text_there}
 
 -- what stands past the end of the bundles
 abbrev pub no_bundle : BundleText
@@ -74,7 +75,7 @@ module _ (names : List (List ℕ)) (order : IsInByteOrder names) where
       → Lists (Has set) ids → map (name_at names) ids ≡ map (name_at names) (members set)
   same_members set ids long are =
       let low : All (λ t. t < length names) (members set) = λ k e within. (
-      let below : get_or (members set) k e < length set = has_low set (get_or (members set) k e)
+      let below : get_or (members set) k e < length set = has_within set (get_or (members set) k e)
       (has_member set (get_or (members set) k e) (Contains-get_or (members set) k e within)) in
       omega arith) in
       let known : All (Contains names) (map (name_at names) (members set)) =
@@ -83,7 +84,7 @@ module _ (names : List (List ℕ)) (order : IsInByteOrder names) where
       named_back names (map (name_at names) (members set)) ids known (λ t. (
         λ has.
             let member : Contains (members set) t = member_has set t ((are.same t).0 has) in
-            let below : t < length set = has_low set t ((are.same t).0 has) in (
+            let below : t < length set = has_within set t ((are.same t).0 has) in (
               name_at names t,
               slice_get-get_or names t [] (omega arith),
               mapped_member (name_at names) (members set) t member,
@@ -91,7 +92,7 @@ module _ (names : List (List ℕ)) (order : IsInByteOrder names) where
         λ (name, at, listed).
             let found = member_mapped (name_at names) (members set) name listed in
             let below : found.0 < length set =
-            has_low set found.0 (has_member set found.0 found.1) in
+            has_within set found.0 (has_member set found.0 found.1) in
             let here : slice_get names found.0 ≡ Some name =
             slice_get-get_or names found.0 [] (omega arith) ∙ ap (λ (n : List ℕ). Some n) found.2 in
             (are.same t).1
@@ -103,7 +104,7 @@ module _ (names : List (List ℕ)) (order : IsInByteOrder names) where
   pub ids_low : (set : List Bool) (ids : List ℕ) → length set ≡ length names → Lists (Has set) ids
       → All (λ t. t < length names) ids
   ids_low set ids long are k e within =
-      let low : get_or ids k e < length set = has_low set (get_or ids k e)
+      let low : get_or ids k e < length set = has_within set (get_or ids k e)
       ((are.same (get_or ids k e)).0 (Contains-get_or ids k e within)) in
       omega arith
 

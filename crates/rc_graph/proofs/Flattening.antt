@@ -2,11 +2,11 @@
 -- read back.
 use Rattle.std.proofs.Common.{◌≡◌, ◌∙◌, ℕ, ◌+◌, ◌<◌, ◌≤◌, List, [], ◌∷◌, ◌++◌, length, take}
 use Rattle.std.proofs.Common.{slice_index_or, refl, sym, ap, subst, arith, append_assoc}
-use Rattle.std.proofs.Math.Seq.{take-append_seam, drop-append_seam}
 use Rattle.std.proofs.lemmas.List.{take_all, take_more, flat_map_more}
 use Rattle.smallvec.specs.SmallVec.{SmallVec}
 use Rattle.rc_model.specs.Names.{IsAscending}
 use Rattle.rc_model.specs.Graph.{AreNeeds}
+use Rattle.rc_model.proofs.Lists.{cut_once}
 use Rattle.rc_graph.specs.Flat.{flat_of}
 use Rattle.rc_graph.specs.Rows.{rows}
 use Rattle.rc_graph.proofs.RowLemmas.{length-rows, row_is, row_known, short_list}
@@ -50,15 +50,6 @@ pub all_flat : (vectors : List (SmallVec ℕ)) (i : ℕ) (flat : List ℕ) → l
 all_flat vectors i flat past so_far =
     so_far ∙ ap flat_of (take_all i (rows vectors) (rw (length-rows vectors) past))
 
--- two lists of one length stand in front of the same: they are the same, and what follows is
-same_front : (a b c d : List ℕ) → length a ≡ length b → a ++ c ≡ b ++ d → (a ≡ b) × (c ≡ d)
-same_front a b c d long same =
-    let front_a = take-append_seam a c in
-    let front_b = take-append_seam b d in
-    let back_a = drop-append_seam a c in
-    let back_b = drop-append_seam b d in
-    (cc, cc)
-
 -- the lists can be read back
 pub flat_determines : (a b : List (List ℕ)) → flat_of a ≡ flat_of b → a ≡ b
 flat_determines [] [] same = refl
@@ -67,7 +58,7 @@ flat_determines (r ∷ a) [] same = cc
 flat_determines (r ∷ a) (q ∷ b) same =
     let long : length r ≡ length q = cc in
     let rest : r ++ flat_of a ≡ q ++ flat_of b = cc in
-    let parts = same_front r q (flat_of a) (flat_of b) long rest in
+    let parts = cut_once r q (flat_of a) (flat_of b) long rest in
     let first : r ≡ q = parts.0 in
     let later : a ≡ b = flat_determines a b parts.1 in
     cc

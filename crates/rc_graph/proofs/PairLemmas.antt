@@ -124,11 +124,7 @@ gap_lacks xs i y gap has = elim (cases_lt has.0 i) [
       omega (arith, has.2)
 ]
 
--- the empty list has nothing
-pub no_member : (t : ℕ) → Contains [] t → ⊥
-no_member t (k, low, is) = absurd (omega arith)
-
--- and a list of one has that one
+-- a list of one has that one
 pub one_only : (y s : ℕ) → Contains (y ∷ []) s → s ≡ y
 one_only y s (zero, low, is) = sym is
 one_only y s (suc k, low, is) = absurd (omega arith)

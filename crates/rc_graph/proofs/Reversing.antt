@@ -7,10 +7,10 @@ use Rattle.std.proofs.lemmas.List.Elements.{Contains-append_left, Contains-push}
 use Rattle.std.proofs.lemmas.List.Elements.{Contains-push_cases}
 use Rattle.smallvec.specs.SmallVec.{SmallVec}
 use Rattle.rc_model.specs.Graph.{Needs, AreNeeds}
+use Rattle.rc_model.proofs.Members.{none_contained}
 use Rattle.rc_graph.specs.Needs.{IsReverse}
 use Rattle.rc_graph.specs.Rows.{rows}
-use Rattle.rc_graph.proofs.RowLemmas.{length-rows}
-use Rattle.rc_graph.proofs.PairLemmas.{no_member}
+use Rattle.rc_graph.proofs.RowLemmas.{length-rows, no_need}
 
 -- the pairs of old lists, with the list's members each before a service
 pub record HasAdded (old new : List (List ℕ)) (list : List ℕ) (service : ℕ) : Type 0 where
@@ -24,7 +24,8 @@ none_added old service lists =
     record {
       bound = refl;
       lists = lists;
-      pairs = λ t s. (inl, λ h. elim h [ inl old ↦ old | inr new ↦ absurd (no_member t new.1) ]);
+      pairs =
+          λ t s. (inl, λ h. elim h [ inl old ↦ old | inr new ↦ absurd (none_contained t new.1) ]);
     }
 
 -- one more of them
@@ -68,9 +69,6 @@ no_row n s = elim (cases_lt s n) [
       get_or_past (replicate n []) s []
       (let n_long : length (replicate {A = List ℕ} n []) ≡ n = length-replicate n [] in omega arith)
 ]
-
-no_need : (n s t : ℕ) → Needs (replicate n []) s t → ⊥
-no_need n s t needed = no_member t (rw (no_row n s) at needed)
 
 -- empty lists name no pair
 pub are_needs_none : (n : ℕ) → n ≤ 4096 → AreNeeds (replicate n [])
@@ -123,7 +121,7 @@ all_reversed needs needed_by n high reversed =
         λ h. (reversed.same s t).1 (
           elim (cases_lt s (length needs)) [
             | inl low ↦ omega arith
-            | inr past ↦ absurd (no_member t (rw (get_or_past needs s [] past) at h))
+            | inr past ↦ absurd (none_contained t (rw (get_or_past needs s [] past) at h))
           ],
           h,
         ),

@@ -9,6 +9,7 @@ use Rattle.std.proofs.lemmas.List.Elements.{Contains-get_or}
 use Rattle.std.proofs.lemmas.Bool.{cases_lt, cases_eq}
 use Rattle.rc_model.specs.Names.{IsAscending}
 use Rattle.rc_model.specs.Graph.{Needs, AreServices}
+use Rattle.rc_model.proofs.Members.{none_contained}
 use Rattle.rc_graph.specs.Needs.{IsReverse}
 use Rattle.rc_graph.specs.Rows.{rows}
 
@@ -99,6 +100,12 @@ one_empty lists new row n before grown empty =
 pub all_empty : (lists : List (SmallVec ℕ)) (n asked : ℕ) → rows lists ≡ replicate n [] → n ≤ asked
     → asked ≤ n → rows lists ≡ replicate asked []
 all_empty lists n asked before low high = let same : n ≡ asked = omega arith in rw (← same) before
+
+-- empty lists list nothing
+pub no_need : (n s t : ℕ) → Needs (replicate n []) s t → ⊥
+no_need zero s t there = none_contained t there
+no_need (suc n) zero t there = none_contained t there
+no_need (suc n) (suc s) t there = no_need n s t there
 
 -- past the end nothing is listed
 pub no_row : (needs : List (List ℕ)) (s : ℕ) → length needs ≤ s → slice_index_or needs s [] ≡ []

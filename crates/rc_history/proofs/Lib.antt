@@ -3,9 +3,9 @@
 -- Lists of any type.
 mod Lists
 -- A border that is crossed leaves the generations as they are.
-mod Crossing
+pub mod Crossing
 -- The first and the last state of a line, and of the next one.
-mod Ends
+pub mod Ends
 -- A step that goes well leads to the place before, or to the one after.
 mod Stepping
 -- As many steps that go well restore a place.

@@ -3,11 +3,6 @@ use Rattle.std.proofs.Common.{◌≡◌, suc, List, [], ◌∷◌, ◌++◌, len
 use Rattle.std.proofs.Common.{slice_get, refl, ap, arith}
 use Rattle.std.proofs.lemmas.List.Elements.{All-nil, All-cons}
 
-pub push_append : {X : Type 0} (xs : List X) (y : X) (ys : List X)
-    → (xs ++ y ∷ []) ++ ys ≡ xs ++ y ∷ ys
-push_append [] y ys = refl
-push_append (x ∷ xs) y ys = ap (λ rest. x ∷ rest) (push_append xs y ys)
-
 pub append_nil : {X : Type 0} (xs : List X) → xs ++ [] ≡ xs
 append_nil [] = refl
 append_nil (x ∷ xs) = ap (λ rest. x ∷ rest) (append_nil xs)
@@ -30,23 +25,9 @@ pub get_middle : {X : Type 0} (xs : List X) (y : X) (ys : List X)
 get_middle [] y ys = refl
 get_middle (x ∷ xs) y ys = get_middle xs y ys
 
-pub all_front : {X : Type 0} (P : X → Type 0) (xs ys : List X) → All P (xs ++ ys) → All P xs
-all_front P [] ys h = All-nil P
-all_front P (x ∷ xs) ys h =
-    All-cons P x xs (h 0 x (omega arith)) (all_front P xs ys (λ k d low. h (suc k) d (omega arith)))
-
-pub all_back : {X : Type 0} (P : X → Type 0) (xs ys : List X) → All P (xs ++ ys) → All P ys
-all_back P [] ys h = h
-all_back P (x ∷ xs) ys h = all_back P xs ys (λ k d low. h (suc k) d (omega arith))
-
 pub all_push : {X : Type 0} (P : X → Type 0) (xs : List X) (y : X) → All P xs → P y
     → All P (xs ++ y ∷ [])
 all_push P [] y h p = All-cons P y [] p (All-nil P)
 all_push P (x ∷ xs) y h p =
     All-cons P x (xs ++ y ∷ []) (h 0 x (omega arith))
     (all_push P xs y (λ k d low. h (suc k) d (omega arith)) p)
-
-pub all_last : {X : Type 0} (P : X → Type 0) (xs : List X) (y : X) (ys : List X)
-    → All P (xs ++ y ∷ ys) → P y
-all_last P [] y ys h = h 0 y (omega arith)
-all_last P (x ∷ xs) y ys h = all_last P xs y ys (λ k d low. h (suc k) d (omega arith))

@@ -4,12 +4,12 @@ use Rattle.std.proofs.Common.{inr}
 use Rattle.std.proofs.Common.{refl, ap, sym, subst, arith}
 use Rattle.rc_model.specs.Line.{State}
 use Rattle.rc_model.specs.Session.{Undo, Redo}
+use Rattle.rc_model.proofs.Lists.{all_between}
 use Rattle.rc_session.proofs.WaysBack.{ways_back, ways_on}
 use Rattle.rc_history.specs.History.{Generation, History, IsHistory, IsLeft, IsAhead, cursor_of}
 use Rattle.rc_history.specs.History.{all_places, place_in, places_after}
 use Rattle.rc_history.specs.Moves.{StepsBack, StepsOn}
 use Rattle.rc_history.specs.Promises.{CanStepBack, CanStepOn}
-use Rattle.rc_history.proofs.Lists.{all_last}
 use Rattle.rc_history.proofs.Ends.{next_first, next_last}
 use Rattle.rc_history.proofs.Inside.{present_of}
 
@@ -95,7 +95,7 @@ step_across h of first (g ∷ gs) same some =
       inl (record {
         left = is;
         reached = refl;
-        at_last = all_last IsLeft split.0 split.1 [] (subst (All IsLeft) is of.left);
+        at_last = all_between IsLeft split.0 split.1 [] (subst (All IsLeft) is of.left);
         at_first = first;
       }),
     )
@@ -118,7 +118,7 @@ step_across_on h of last (g ∷ gs) same some =
         left = refl;
         reached = same;
         at_last = last;
-        at_first = all_last IsAhead [] g gs (subst (All IsAhead) same of.ahead);
+        at_first = all_between IsAhead [] g gs (subst (All IsAhead) same of.ahead);
       }),
     )
 

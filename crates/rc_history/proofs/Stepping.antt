@@ -1,17 +1,14 @@
 -- A step back that goes well leads to the place before, whether inside a generation or across a
 -- border, and a step on to the place after.
-use Rattle.std.proofs.Common.{◌≡◌, ◌∙◌, ℕ, false, List, [], ◌∷◌, ◌++◌, map, Result}
-use Rattle.std.proofs.Common.{Ok, Err, inl, inr, ap, sym, subst}
-use Rattle.rc_model.specs.declared.Event.{Event}
+use Rattle.std.proofs.Common.{◌≡◌, ◌∙◌, List, [], ◌∷◌, ◌++◌, map, Result}
+use Rattle.std.proofs.Common.{inl, inr, ap, sym}
 use Rattle.rc_model.specs.declared.Refusal.{Refusal}
 use Rattle.rc_model.specs.Database.{Database, IsDatabase}
 use Rattle.rc_model.specs.Line.{State, Line, IsNext}
-use Rattle.rc_model.specs.Session.{Command, Change, Undo, Redo, Add, Delete, Reported, DoesByRun}
-use Rattle.rc_model.specs.Session.{IsLineOf, Answers}
+use Rattle.rc_model.specs.Session.{Command, Reported}
+use Rattle.rc_model.specs.Session.{IsLineOf}
 use Rattle.rc_model.specs.Headline.{WentWell, IsUndo, IsRedo}
-use Rattle.rc_session.proofs.Neighbours.{one_back, one_on}
-use Rattle.rc_session.proofs.States.{line_of_back, line_of_next, current_state}
-use Rattle.rc_session.proofs.Arriving.{arrives}
+use Rattle.rc_session.proofs.Undos.{undo_well, redo_well}
 use Rattle.rc_history.specs.History.{Generation, History, Place, place_in, places_of, all_places}
 use Rattle.rc_history.specs.History.{places_before, place_now, places_after}
 use Rattle.rc_history.specs.Moves.{MovesInside, IsAcross}
@@ -79,73 +76,6 @@ inside_after h next base on earlier later =
           ∙ ap (λ (d : Database). place_in d next.present.line.current
           ∷ (map (place_in d) next.present.line.after ++ all_places next.later)) (sym base);
     }
-
-module _ (d : Database) (is_db : IsDatabase d) where
-  undo_goes_back : (line new : Line) (limit : ℕ) (events : List Event) (told : Reported)
-      → IsLineOf d line → DoesByRun d line (Undo limit events) told new →
-      told.failed ≡ [] → told.stopped ≡ false → IsNext new line
-  undo_goes_back line new limit events told of run failed stopped =
-      let back = run.task.0 in
-      let arrived : run.live ≡ back.current.live = arrives d line.current back.current run.plan
-      run.deadline run.task.2.leads events run.live told is_db
-      (current_state d line of) (current_state d back (line_of_back d back line run.task.1 of))
-      run.ends run.is_report failed stopped in
-      let there = run.moved.0 in
-      let same : back ≡ there = one_back back there line run.task.1 run.moved.1 in
-      let there_too : run.live ≡ there.current.live = arrived ∙ ap (λ l. l.current.live) same in
-      elim run.moved.2 [
-        | inl reached ↦ subst (λ l. IsNext l line) (sym reached.1) run.moved.1
-        | inr other ↦ elim other [
-          | inl stayed ↦ absurd (stayed.0 there_too)
-          | inr between ↦ absurd (between.0 there_too)
-        ]
-      ]
-
-  redo_goes_on : (line new : Line) (limit : ℕ) (events : List Event) (told : Reported)
-      → IsLineOf d line → DoesByRun d line (Redo limit events) told new →
-      told.failed ≡ [] → told.stopped ≡ false → IsNext line new
-  redo_goes_on line new limit events told of run failed stopped =
-      let on = run.task.0 in
-      let arrived : run.live ≡ on.current.live = arrives d line.current on.current run.plan
-      run.deadline run.task.2.leads events run.live told is_db
-      (current_state d line of) (current_state d on (line_of_next d line on run.task.1 of)) run.ends
-      run.is_report failed stopped in
-      let there = run.moved.0 in
-      let same : on ≡ there = one_on line on there run.task.1 run.moved.1 in
-      let there_too : run.live ≡ there.current.live = arrived ∙ ap (λ l. l.current.live) same in
-      elim run.moved.2 [
-        | inl reached ↦ subst (λ l. IsNext line l) (sym reached.1) run.moved.1
-        | inr other ↦ elim other [
-          | inl stayed ↦ absurd (stayed.0 there_too)
-          | inr between ↦ absurd (between.0 there_too)
-        ]
-      ]
-
-  pub undo_well : (line new : Line) (command : Command) (answer : Result Reported Refusal)
-      → IsLineOf d line → IsUndo command → WentWell answer → Answers d line command answer new
-      → IsNext new line
-  undo_well line new (Undo limit events) (Ok told) of undo went does = elim does [
-    | inl run ↦ undo_goes_back line new limit events told of run went.0 went.1
-    | inr edit ↦ absurd edit.altered
-  ]
-  undo_well line new command (Err refusal) of undo went does = absurd went
-  undo_well line new (Change ask events) (Ok told) of undo went does = absurd undo
-  undo_well line new (Redo limit events) (Ok told) of undo went does = absurd undo
-  undo_well line new (Add name contents force) (Ok told) of undo went does = absurd undo
-  undo_well line new (Delete words force) (Ok told) of undo went does = absurd undo
-
-  pub redo_well : (line new : Line) (command : Command) (answer : Result Reported Refusal)
-      → IsLineOf d line → IsRedo command → WentWell answer → Answers d line command answer new
-      → IsNext line new
-  redo_well line new (Redo limit events) (Ok told) of redo went does = elim does [
-    | inl run ↦ redo_goes_on line new limit events told of run went.0 went.1
-    | inr edit ↦ absurd edit.altered
-  ]
-  redo_well line new command (Err refusal) of redo went does = absurd went
-  redo_well line new (Change ask events) (Ok told) of redo went does = absurd redo
-  redo_well line new (Undo limit events) (Ok told) of redo went does = absurd redo
-  redo_well line new (Add name contents force) (Ok told) of redo went does = absurd redo
-  redo_well line new (Delete words force) (Ok told) of redo went does = absurd redo
 
 -- an undo inside that goes well
 pub undo_after : (h new : History) (command : Command) (answer : Result Reported Refusal)

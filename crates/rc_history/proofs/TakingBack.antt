@@ -9,6 +9,7 @@ use Rattle.rc_model.specs.Database.{Database, IsDatabase}
 use Rattle.rc_model.specs.Line.{State, Line, states, put_last}
 use Rattle.rc_model.proofs.Lines.{cons_tail}
 use Rattle.rc_model.specs.Session.{Change, Does, IsLineOf, Reported}
+use Rattle.rc_model.proofs.Lists.{push_append}
 use Rattle.rc_session.proofs.Promising.{promised}
 use Rattle.rc_update.specs.Conversions.{Conversion}
 use Rattle.rc_history.specs.History.{Generation, History, Place, IsHistory, places, cursor_of}
@@ -17,8 +18,8 @@ use Rattle.rc_history.specs.History.{first_state}
 use Rattle.rc_history.specs.Moves.{MovesInside, Enters, SeveralBack}
 use Rattle.rc_history.specs.Promises.{AddsPlaces, AddsTo, CutUpdatesAreTakenBack, HasRoom}
 use Rattle.rc_history.specs.Promises.{IsUpdate, MayDropOldest, UpdatesAreTakenBack}
-use Rattle.rc_history.proofs.Lists.{push_append, append_nil, append_three, map_append, get_middle}
-use Rattle.rc_history.proofs.Ends.{first_push}
+use Rattle.rc_history.proofs.Lists.{append_nil, append_three, map_append, get_middle}
+use Rattle.rc_history.proofs.Ends.{first_push, few_added}
 use Rattle.rc_history.proofs.Dropping.{drops_keep}
 use Rattle.rc_history.proofs.Inside.{present_of, inside_keeps}
 use Rattle.rc_history.proofs.Entering.{entered}
@@ -31,11 +32,6 @@ upto h = places_before h ++ place_now h ∷ []
 -- the second history has these places more, and keeps all up to where the first one stood
 Adds : History → List Place → History → Type 0
 Adds h more new = upto new ≡ upto h ++ more
-
--- a change adds one state at most
-few_added : (line new : Line) (number : ℕ) → AddsTo line new number → number ≤ 1
-few_added line new number (inl none) = omega (arith, none.1)
-few_added line new number (inr one) = omega (arith, one.1)
 
 -- where there is room, nothing is lost for it
 change_adds : (h new : History) (ask : Ask) (events : List Event) (report : Reported) → IsHistory h

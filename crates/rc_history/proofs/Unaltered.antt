@@ -1,29 +1,19 @@
 -- A service goes on unaltered in another database, or it does not: which one can be decided.
 use Rattle.std.proofs.Common.{◌≡◌, ◌∙◌, ◌⊎◌, ◌<◌, inl, inr, ℕ, zero, suc, Bool, true, false, List}
-use Rattle.std.proofs.Common.{[], ◌∷◌, length, Contains, Option, Some, None, slice_get, arith, refl}
-use Rattle.std.proofs.Common.{slice_index_or, sym, subst}
+use Rattle.std.proofs.Common.{length, Option, Some, None, slice_get, arith, refl}
+use Rattle.std.proofs.Common.{sym, subst}
 use Rattle.std.specs.Str.{bytes_eq}
-use Rattle.std.proofs.lemmas.Bool.{cases_eq, cases_lt}
+use Rattle.std.proofs.lemmas.Bool.{cases_lt}
 use Rattle.std.proofs.lemmas.Option.{none-some, same_Some}
 use Rattle.std.proofs.lemmas.Slice.Eq.{bytes_eq-Decides}
 use Rattle.rc_model.specs.declared.Kind.{Kind}
 use Rattle.rc_model.specs.declared.Kind.TheVariants as kind
 use Rattle.rc_model.specs.Graph.{Needs}
 use Rattle.rc_model.specs.Database.{Database, IsDatabase, Service}
-use Rattle.rc_model.proofs.Members.{contains_cases, contains_first, contains_later}
-use Rattle.rc_model.proofs.Members.{none_contained}
 use Rattle.rc_update.specs.Conversions.{Conversion, counterpart, is_restarted}
 use Rattle.rc_update.specs.Carrying.{AreTwins, IsAlike, IsRestarted, IsSame, IsTwin, IsUnaltered}
-use Rattle.rc_update.specs.Carrying.{NeedTwins}
 use Rattle.rc_update.proofs.CarryingLemmas.{one_twin, twin_within}
-
-abbrev pub Decided : Type 0 → Type 0
-Decided P = P ⊎ (P → ⊥)
-
-both : (P Q : Type 0) → Decided P → Decided Q → Decided (P × Q)
-both P Q (inl is) (inl also) = inl (is, also)
-both P Q (inl is) (inr never) = inr (λ h. never h.1)
-both P Q (inr never) q = inr (λ h. never h.0)
+use Rattle.rc_session.proofs.Deciding.{Decided, both, needs_decided}
 
 -- some number below a bound, or none
 some_below : (P : ℕ → Type 0) (n : ℕ) → ((s : ℕ) → Decided (P s))
@@ -63,23 +53,6 @@ each_of P Q n below by of =
     not_so : (s : ℕ) → Decided (Q s) → Decided (Q s → ⊥)
     not_so s (inl is) = inr (λ never. never is)
     not_so s (inr never) = inl never
-
--- a list contains a number or not
-contains_or_not : (xs : List ℕ) (x : ℕ) → Decided (Contains xs x)
-contains_or_not [] x = inr (none_contained x)
-contains_or_not (y ∷ xs) x = elim (cases_eq y x) [
-  | inl same ↦ inl (subst (Contains (y ∷ xs)) same (contains_first y xs))
-  | inr other ↦ elim (contains_or_not xs x) [
-    | inl there ↦ inl (contains_later y xs x there)
-    | inr none ↦ inr (λ h. elim (contains_cases y xs x h) [
-      | inl same ↦ other same
-      | inr there ↦ none there
-    ])
-  ]
-]
-
-needs_or_not : (needs : List (List ℕ)) (s t : ℕ) → Decided (Needs needs s t)
-needs_or_not needs s t = contains_or_not (slice_index_or needs s []) t
 
 same_or_not : (a b : List ℕ) → Decided (a ≡ b)
 same_or_not a b = by (bytes_eq a b) refl
@@ -207,21 +180,21 @@ module _ (old new : Database) (list : List Conversion) (is_old : IsDatabase old)
   forth_or_not s t =
       each_of (Needs old.needs s)
       (λ x. (u : ℕ) × (IsTwin old new list x u × Needs new.needs t u)) (length old.needs)
-      (is_old.needs.known s) (needs_or_not old.needs s)
+      (is_old.needs.known s) (needs_decided old.needs s)
       (λ x. some_of (λ u. IsTwin old new list x u × Needs new.needs t u) (length new.names)
       (λ u h. twin_within old new list x u h.0)
       (λ u. both (IsTwin old new list x u) (Needs new.needs t u) (twin_or_not x u)
-      (needs_or_not new.needs t u)))
+      (needs_decided new.needs t u)))
 
   back_or_not : (s t : ℕ) → Decided (Back s t)
   unfolding Back
   back_or_not s t =
       each_of (Needs new.needs t)
       (λ u. (x : ℕ) × (Needs old.needs s x × IsTwin old new list x u)) (length new.needs)
-      (is_new.needs.known t) (needs_or_not new.needs t)
+      (is_new.needs.known t) (needs_decided new.needs t)
       (λ u. some_of (λ x. Needs old.needs s x × IsTwin old new list x u) (length old.needs)
       (λ x h. is_old.needs.known s x h.0)
-      (λ x. both (Needs old.needs s x) (IsTwin old new list x u) (needs_or_not old.needs s x)
+      (λ x. both (Needs old.needs s x) (IsTwin old new list x u) (needs_decided old.needs s x)
       (twin_or_not x u)))
 
   same_as : (s t : ℕ) → IsTwin old new list s t → Decided (IsSame old new list s t)

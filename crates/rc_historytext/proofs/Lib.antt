@@ -25,7 +25,7 @@ mod TellingLemmas
 -- What is done on the text is done in the history that it tells.
 mod Moving
 -- Each move leaves what has a text.
-mod Kept
+pub mod Kept
 -- What calls make of the generations.
 mod Changed
 -- The texts of a generation stand in the text of a history.
@@ -33,7 +33,7 @@ mod Standings
 -- The lines of a session, as they are written.
 mod SessionLines
 -- The present generation of a history is one.
-mod Presents
+pub mod Presents
 -- Why calls fail, put together from what the calls below them say.
 mod Failing
 -- The marks of the present generation, once it is left or its state is a stop.
@@ -43,7 +43,7 @@ mod TravelledTexts
 -- The mark of a place, and the marks beside another line of the same states.
 mod TravelledMarks
 -- A line and the next one, as their texts have them.
-mod TravelledLines
+pub mod TravelledLines
 -- One step of an undo or a redo on the text of a history is one in the history that it gives.
 mod TravelledSteps
 -- Where an undo and a redo stop, and several steps in a row.
@@ -56,9 +56,9 @@ mod UpdatedNames
 -- What is live after the first half of an update, and that it goes on unaltered.
 mod UpdatedHalves
 -- A line after a change that moved something, as its text has it, and the marks of a step.
-mod UpdatedLines
+pub mod UpdatedLines
 -- The generations of a text after the moves of an update, and their marks.
-mod UpdatedTexts
+pub mod UpdatedTexts
 -- A step of an update that is kept in the text of a history is one in the history that it gives.
 mod UpdatedSteps
 -- A database that an update enters on the text of a history is entered in the history.
@@ -68,4 +68,4 @@ mod UpdatedEnds
 -- An update on the text of a history is one of the history that it gives.
 mod UpdatedWhole
 -- A history that begins gives one generation, and so many places are added by an update.
-mod UpdatedBegins
+pub mod UpdatedBegins

@@ -1,14 +1,14 @@
 -- A line that is due is read once, and lines that are due are.
 use Rattle.std.proofs.Common.{◌≡◌, ◌∙◌, ℕ, ◌+◌, ◌<◌, ◌^◌, zero, suc, Bool, true, false, List, []}
 use Rattle.std.proofs.Common.{◌∷◌}
-use Rattle.std.proofs.Common.{◌++◌, length, take, drop, get_or, arith, refl, sym, ap, subst}
+use Rattle.std.proofs.Common.{◌++◌, length, take, get_or, arith, refl, sym, ap, subst}
 use Rattle.std.proofs.Common.{append_assoc}
 use Rattle.std.proofs.lemmas.Fmt.{decimal_injective}
-use Rattle.std.proofs.lemmas.List.{take_at, drop_at}
 use Rattle.std.specs.Prelude.{codes}
 use Rattle.std.specs.Fmt.{decimal}
 use Rattle.rc_dbtext.specs.Form.{spells}
 use Rattle.rc_dbtext.proofs.LineWords.{words_once}
+use Rattle.rc_model.proofs.Lists.{word_at, cut_once}
 use Rattle.rc_historytext.specs.Text.{Line, First, OfPlace, OfMarks, OfDatabase, OfSession}
 use Rattle.rc_historytext.specs.Text.{RenameCount, OfRename, Last, words, text_behind}
 use Rattle.rc_historytext.specs.Text.{mark_word, spell}
@@ -18,23 +18,11 @@ use Rattle.rc_historytext.specs.Due.{place_after, NoneDue}
 use Rattle.rc_historytext.proofs.LineWords.{plain_line, few_renames}
 use Rattle.rc_historytext.proofs.Missing.{line_apart}
 
-word_at : (k : ℕ) (ws vs : List (List ℕ)) → ws ≡ vs → get_or ws k [] ≡ get_or vs k []
-word_at k ws vs same = ap (λ (l : List (List ℕ)). get_or l k []) same
-
 mark_once : (a b : Bool) → mark_word a ≡ mark_word b → a ≡ b
 mark_once true true same = refl
 mark_once true false same = absurd (omega (arith, ap (λ (l : List ℕ). get_or l 0 0) same))
 mark_once false true same = absurd (omega (arith, ap (λ (l : List ℕ). get_or l 0 0) same))
 mark_once false false same = refl
-
--- texts of one length in front of one text are one
-pub cut_once : (a b x y : List ℕ) → length a ≡ length b → a ++ x ≡ b ++ y → (a ≡ b) × (x ≡ y)
-cut_once a b x y long same = (
-  sym (take_at a x (length a) refl) ∙ ap (take (length a)) same
-      ∙ take_at b y (length a) (sym long),
-  sym (drop_at a x (length a) refl) ∙ ap (drop (length a)) same
-      ∙ drop_at b y (length a) (sym long),
-)
 
 -- a text after its length
 counted_once : (word a b x y : List ℕ) → length a < 2 ^ 64 → length b < 2 ^ 64

@@ -1,11 +1,11 @@
 -- What was read of bytes.
-use Rattle.std.proofs.Common.{◌≡◌, ◌∙◌, ℕ, ◌+◌, ◌-◌, ◌<◌, ◌≤◌, suc, inl, inr, Bool, true, false}
+use Rattle.std.proofs.Common.{◌≡◌, ◌∙◌, ℕ, ◌+◌, ◌-◌, ◌<◌, ◌≤◌, suc, inl, inr, Bool}
 use Rattle.std.proofs.Common.{List}
 use Rattle.std.proofs.Common.{[]}
 use Rattle.std.proofs.Common.{◌∷◌, ◌++◌, length, map, All, length-append, refl, sym, ap, arith}
 use Rattle.std.proofs.Common.{get_or, subst, append_assoc, ◌==◌}
 use Rattle.std.specs.Prelude.{codes}
-use Rattle.std.proofs.lemmas.Bool.{eqb-true}
+use Rattle.std.proofs.lemmas.Bool.{ne_eqb}
 use Rattle.std.specs.List.{flat_map}
 use Rattle.std.proofs.lemmas.List.{append-nil, map-append, nil_from_length}
 use Rattle.std.proofs.lemmas.List.Concat.{flat_map-append}
@@ -219,13 +219,6 @@ oldest_more [] new g place count none few pushed =
     ap oldest_renames pushed ∙ nil_from_length g.renames (omega arith)
 oldest_more (first ∷ gs) new g place count none few pushed = ap oldest_renames pushed ∙ none
 
-not_zero : (n : ℕ) → (suc n == 0) ≡ false
-not_zero n = by (suc n == 0) refl
-  where
-    by : (b : Bool) → (suc n == 0) ≡ b → (suc n == 0) ≡ false
-    by false is = is
-    by true is = absurd (omega (arith, eqb-true (suc n) 0 is))
-
 -- reading stops in a generation after some of so many
 pub generations_stop : (bytes rest : List ℕ) (gs : List GenerationText) (place count : ℕ)
     (fault : LineFault) → length gs ≡ place → All IsGenerationText gs → oldest_renames gs ≡ []
@@ -246,7 +239,7 @@ generations_stop bytes rest gs place count fault is each oldest stand fewer stop
         (stops (count - (place + 1)))
     there (g ∷ gs) some =
         subst (λ (oldest : Bool). Stops (AtMarks oldest (count - (place + 1))) rest fault)
-        (not_zero (length gs))
+        (ne_eqb (suc (length gs)) 0 (λ same. absurd (omega (arith, same))))
         (subst (λ (k : ℕ). Stops (AtMarks (k == 0) (count - (place + 1))) rest fault) (sym some)
         (stops (count - (place + 1))))
 

@@ -6,8 +6,7 @@ use Rattle.std.proofs.lemmas.List.{nil_from_length}
 use Rattle.std.proofs.lemmas.List.Elements.{All-nil, All-cons}
 use Rattle.std.specs.List.{flat_map}
 use Rattle.std.specs.Prelude.{codes}
-use Rattle.rc_model.specs.Names.{IsName, IsNameByte}
-use Rattle.rc_dbtext.proofs.Texts.{text_from}
+use Rattle.rc_dbtext.proofs.Plain.{IsName-a}
 use Rattle.rc_historytext.specs.Text.{Line, First, OfPlace, OfMarks, OfDatabase, OfSession}
 use Rattle.rc_historytext.specs.Text.{RenameCount, OfRename, Last, RenameText, GenerationText}
 use Rattle.rc_historytext.specs.Text.{HistoryText, IsRename, IsGenerationText, IsHistoryText}
@@ -264,28 +263,11 @@ plain_goes oldest more part = record {
 }
 
 -- a name, and so many renames
-name_byte : All IsNameByte (codes "a")
-name_byte = All-cons IsNameByte 97 [] (omega arith, omega arith, omega arith)
-    (All-nil IsNameByte)
-
-name_is : IsName (codes "a")
-name_is = record {
-  some = omega arith;
-  short = omega arith;
-  bytes = record {
-    each = name_byte;
-    no_option = λ same. omega arith;
-    no_comment = λ same. omega arith;
-  };
-  unreserved = λ bad. absurd cc;
-  utf8 = text_from (codes "a") refl;
-}
-
 abbrev pub same_name : RenameText
 same_name = record { old = codes "a"; new = codes "a" }
 
 pub same_name_is : IsRename same_name
-same_name_is = record { old = name_is; new = name_is }
+same_name_is = record { old = IsName-a; new = IsName-a }
 
 abbrev same_names : ℕ → List RenameText
 same_names zero = []

@@ -8,8 +8,6 @@ use Rattle.std.proofs.lemmas.List.{append-nil}
 use Rattle.rc_model.specs.Database.{Database, IsDatabase}
 use Rattle.rc_model.specs.Line.{State, Line, IsNext}
 use Rattle.rc_model.specs.Session.{IsLineOf}
-use Rattle.rc_history.specs.History.{first_state, last_of, last_state}
-use Rattle.rc_history.specs.History as history
 use Rattle.rc_livetext.specs.Text.{LiveText, StateText, IsLiveText, live_text}
 use Rattle.rc_livetext.specs.Spelling.{Spells, state_text, text_with, text_of, old_text_of}
 use Rattle.rc_livetext.specs.Spelling.{spelling, old_spelling}
@@ -42,20 +40,6 @@ not_next line next is same =
       ap (λ (l : Line). length l.before) same,
       length-append line.before (line.current ∷ []),
     ))
-
--- a line and the next one have the same first and last states
-pub first_pushed : (xs : List State) (y z : State)
-    → history.first_of (xs ++ y ∷ []) z ≡ history.first_of xs y
-first_pushed [] y z = refl
-first_pushed (x ∷ xs) y z = refl
-
-pub next_first : (line next : Line) → IsNext line next → first_state next ≡ first_state line
-next_first line next is =
-    ap (λ (ss : List State). history.first_of ss next.current) is.left
-    ∙ first_pushed line.before line.current next.current
-
-pub next_last : (line next : Line) → IsNext line next → last_state next ≡ last_state line
-next_last line next is = ap (λ (ss : List State). last_of line.current ss) (sym is.reached)
 
 -- the texts of a line and of the next one have the same oldest state
 pub oldest_pushed : (f : State → StateText) (xs : List State) (y z : State)
@@ -95,7 +79,7 @@ same_newest d b c line next is =
     ∙ newest_pushed (f next.current) (map f next.after) (f line.current))
 
 -- neither of them is alone
-no_count : {A : Type 0} (xs : List A) → xs ≢ [] → (length xs == 0) ≡ false
+pub no_count : {A : Type 0} (xs : List A) → xs ≢ [] → (length xs == 0) ≡ false
 no_count [] some = absurd (some refl)
 no_count (x ∷ xs) some = ne_eqb (suc (length xs)) 0 (λ same. absurd (omega (arith, same)))
 

@@ -4,12 +4,13 @@ use Rattle.std.proofs.Common.{false, List, [], ◌∷◌, ◌++◌, length, All,
 use Rattle.std.proofs.Common.{slice_get, arith, refl, sym, ap, subst, length-append}
 use Rattle.std.specs.Prelude.{if◌then◌else◌}
 use Rattle.std.proofs.lemmas.Bool.{lt-ltb, ltb-false, ltb-true}
-use Rattle.std.proofs.lemmas.List.{append-nil, length-map}
+use Rattle.std.proofs.lemmas.List.{append-nil, length-map, nil_from_length}
 use Rattle.rc_model.specs.Database.{Database, IsDatabase}
 use Rattle.rc_model.specs.declared.Refusal.{Refusal}
 use Rattle.rc_model.specs.Line.{Line, IsNext, states}
 use Rattle.rc_model.specs.Session.{Answers, Command, IsLineOf, Redo, Reported, Undo}
 use Rattle.rc_model.proofs.Lines.{next_states}
+use Rattle.rc_model.proofs.Lists.{all_between}
 use Rattle.rc_session.proofs.Neighbours.{one_back, one_on}
 use Rattle.rc_session.proofs.States.{line_of_back, line_of_next}
 use Rattle.rc_session.proofs.WaysBack.{ways_back, ways_on}
@@ -20,6 +21,8 @@ use Rattle.rc_livetext.specs.Spelling.{Spells, spelling, state_text, text_with}
 use Rattle.rc_history.specs.History.{Generation, History, IsHistory, IsGeneration, cursor_of}
 use Rattle.rc_history.specs.History.{generations}
 use Rattle.rc_history.specs.Moves.{IsAcross, MovesInside, StepsBack, StepsOn}
+use Rattle.rc_history.proofs.Crossing.{same_generations}
+use Rattle.rc_history.proofs.Ends.{next_first, next_last}
 use Rattle.rc_historytext.specs.declared.keeping.Keeping.TheVariants.{Way}
 use Rattle.rc_historytext.specs.Text.{GenerationText, HistoryText, IsHistoryText, history_text}
 use Rattle.rc_historytext.specs.Moves.{crossed_back, crossed_on, with_session, with_session_at}
@@ -36,12 +39,11 @@ use Rattle.rc_historytext.proofs.OneFault.{text_once}
 use Rattle.rc_historytext.proofs.Moving.{goes_back, goes_on, replaced}
 use Rattle.rc_historytext.proofs.Presents.{at_place, place_once}
 use Rattle.rc_historytext.proofs.TellingLemmas.{first_count}
-use Rattle.rc_historytext.proofs.TravelledLines.{next_first, next_last}
 use Rattle.rc_historytext.proofs.TravelledLines.{TextLaws, next_not_alone, not_alone, not_next}
 use Rattle.rc_historytext.proofs.TravelledLines.{same_newest, same_oldest, says_line, some_after}
 use Rattle.rc_historytext.proofs.TravelledLines.{some_before, way_leaves}
 use Rattle.rc_historytext.proofs.TravelledMarks.{mark_between, mark_now, marks_kept}
-use Rattle.rc_historytext.proofs.TravelledTexts.{first_told, middle_of, nothing, same_generations}
+use Rattle.rc_historytext.proofs.TravelledTexts.{first_told}
 use Rattle.rc_historytext.proofs.TravelledTexts.{with_middle}
 
 -- the laws of other crates that are used here
@@ -64,7 +66,7 @@ with_line h line = record h { present = record h.present { line = line } }
 module _ (laws : Laws) (h : History) (is : IsHistory h) (marks : List Bool) (bytes : List ℕ)
     (gives : GivesHistory bytes h marks) where
   pub present_is : IsGeneration h.present
-  present_is = middle_of IsGeneration h.earlier h.present h.later is.each
+  present_is = all_between IsGeneration h.earlier h.present h.later is.each
 
   pub present_text : GenerationText
   present_text = (at_place gives.t.generations gives.t.present gives.is.present).0
@@ -112,7 +114,7 @@ module _ (laws : Laws) (h : History) (is : IsHistory h) (marks : List Bool) (byt
             (replaced gives.t session first last h (with_line h new) gives.tells moved refl refl);
         writable =
             with_middle Can h.earlier h.present (with_line h new).present h.later
-            (middle_of Can h.earlier h.present h.later gives.writable) gives.writable;
+            (all_between Can h.earlier h.present h.later gives.writable) gives.writable;
         marked =
             gives.marked
             ∙ sym (marks_kept gives.t.generations h.earlier h.present (with_line h new).present
@@ -176,7 +178,7 @@ module _ (laws : Laws) (h : History) (is : IsHistory h) (marks : List Bool) (byt
       let Can : Generation → Type 0 = λ g. IsWritable g.base in
       let same = (place_once bytes there.0 gives.t there.1 present_text there.2 present_there).1 in
       laws.database base h.present.base [] [] is_database writable present_is.database
-      (middle_of Can h.earlier h.present h.later gives.writable)
+      (all_between Can h.earlier h.present h.later gives.writable)
       (ap (λ (text : List ℕ). text ++ [])
       (sym there.3 ∙ ap (λ (x : GenerationText). x.database) same ∙ present_told.database))
 
@@ -360,7 +362,7 @@ module _ (laws : Laws) (h : History) (is : IsHistory h) (marks : List Bool) (byt
       ∙ ap (λ (b : Bool). if b then crossed_back gives.t else gives.t)
       (lt-ltb 0 gives.t.present some) in
       let none : h.present.line.before ≡ [] =
-      nothing h.present.line.before
+      nil_from_length h.present.line.before
       (omega (arith, ltb-false 0 at.before inside, before_are at stands)) in
       let crossing = goes_back gives.t h is gives.tells some none in (
         crossing.0,
@@ -391,7 +393,7 @@ module _ (laws : Laws) (h : History) (is : IsHistory h) (marks : List Bool) (byt
       ∙ ap (λ (b : Bool). if b then crossed_on gives.t else gives.t)
       (lt-ltb (gives.t.present + 1) (length gives.t.generations) some) in
       let none : h.present.line.after ≡ [] =
-      nothing h.present.line.after
+      nil_from_length h.present.line.after
       (omega (arith, ltb-false 0 at.after inside, after_are at stands)) in
       let crossing = goes_on gives.t h is gives.tells some none in (
         crossing.0,

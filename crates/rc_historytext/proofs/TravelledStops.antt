@@ -4,6 +4,7 @@ use Rattle.std.proofs.Common.{[], ◌++◌, length, map, Some, arith, sym, ap}
 use Rattle.std.proofs.Common.{subst}
 use Rattle.std.proofs.lemmas.Bool.{and_cases, and_parts, false≢true, ltb-false, or_parts}
 use Rattle.std.proofs.lemmas.Option.{same_Some}
+use Rattle.std.proofs.lemmas.List.{nil_from_length}
 use Rattle.rc_history.specs.History.{History, IsHistory, all_places, cursor_of, place_in}
 use Rattle.rc_history.specs.History.{places_after}
 use Rattle.rc_history.specs.Stops.{IsPassedAt, IsStopBack, IsStopOn, Redoes, Undoes}
@@ -12,7 +13,6 @@ use Rattle.rc_historytext.specs.Travelling.{GoesOn, PassesTo, Travels}
 use Rattle.rc_historytext.specs.Places.{GivesHistory}
 use Rattle.rc_historytext.proofs.TravelledSteps.{Laws, after_are, before_are, earlier_are}
 use Rattle.rc_historytext.proofs.TravelledSteps.{later_are, mark_is, step_back, step_on}
-use Rattle.rc_historytext.proofs.TravelledTexts.{nothing}
 
 -- no place comes before the current one
 none_before : (h : History) → h.earlier ≡ [] → h.present.line.before ≡ [] → cursor_of h ≡ 0
@@ -45,13 +45,13 @@ module _ (laws : Laws) (h : History) (is : IsHistory h) (marks : List Bool) (byt
         | inr ends ↦
             let both = or_parts (has_inside false at) (crosses false at) ends in
             inr (none_before h
-            (nothing h.earlier
+            (nil_from_length h.earlier
             (omega (
               arith,
               ltb-false 0 at.earlier both.1,
               earlier_are laws h is marks bytes gives at stands,
             )))
-            (nothing h.present.line.before
+            (nil_from_length h.present.line.before
             (omega (
               arith,
               ltb-false 0 at.before both.0,
@@ -66,13 +66,13 @@ module _ (laws : Laws) (h : History) (is : IsHistory h) (marks : List Bool) (byt
         | inr ends ↦
             let both = or_parts (has_inside true at) (crosses true at) ends in
             inr (none_after h
-            (nothing h.later
+            (nil_from_length h.later
             (omega (
               arith,
               ltb-false 0 at.later both.1,
               later_are laws h is marks bytes gives at stands,
             )))
-            (nothing h.present.line.after
+            (nil_from_length h.present.line.after
             (omega (
               arith,
               ltb-false 0 at.after both.0,

@@ -1,18 +1,11 @@
 -- Generations of a history: lists of them, what the text at a place tells, and a border.
-use Rattle.std.proofs.Common.{◌≡◌, ◌∙◌, List, [], ◌∷◌, ◌++◌, length, All, Some, slice_get, arith}
-use Rattle.std.proofs.Common.{refl, sym, ap, subst, append_assoc}
+use Rattle.std.proofs.Common.{◌≡◌, List, [], ◌∷◌, ◌++◌, length, All, Some, slice_get}
+use Rattle.std.proofs.Common.{subst}
 use Rattle.std.proofs.lemmas.List.Elements.{All-cons, All-head, All-tail}
 use Rattle.std.proofs.lemmas.Option.{none-some, same_Some}
-use Rattle.rc_history.specs.History.{Generation, History, generations}
-use Rattle.rc_history.specs.Moves.{IsAcross}
+use Rattle.rc_history.specs.History.{Generation}
 use Rattle.rc_historytext.specs.Text.{GenerationText}
 use Rattle.rc_historytext.specs.Telling.{TellEach, TellFromOldest, TellsStates}
-
--- what holds of all holds of one of them
-pub middle_of : {A : Type 0} (P : A → Type 0) (xs : List A) (y : A) (ys : List A)
-    → All P (xs ++ y ∷ ys) → P y
-middle_of P [] y ys all = All-head P y ys all
-middle_of P (x ∷ xs) y ys all = middle_of P xs y ys (All-tail P x (xs ++ y ∷ ys) all)
 
 pub with_middle : {A : Type 0} (P : A → Type 0) (xs : List A) (y z : A) (ys : List A) → P z
     → All P (xs ++ y ∷ ys) → All P (xs ++ z ∷ ys)
@@ -37,15 +30,3 @@ first_told [] hs k ks g tell there = absurd (none-some g there)
 first_told (f ∷ gs) [] k ks g tell there =
     subst (λ (x : GenerationText). TellsStates x k) (same_Some f g there) tell.0
 first_told (f ∷ gs) (h ∷ hs) k ks g tell there = each_told gs hs k ks g tell.1 there
-
--- a list of no length
-pub nothing : {A : Type 0} (xs : List A) → length xs ≡ 0 → xs ≡ []
-nothing [] none = refl
-nothing (x ∷ xs) none = absurd (omega (arith, none))
-
--- the generations on both sides of a border are the same
-pub same_generations : (h next : History) → IsAcross h next → generations next ≡ generations h
-same_generations h next across =
-    ap (λ (gs : List Generation). gs ++ next.present ∷ next.later) across.left
-    ∙ append_assoc h.earlier (h.present ∷ []) (next.present ∷ next.later)
-    ∙ ap (λ (gs : List Generation). h.earlier ++ h.present ∷ gs) (sym across.reached)

@@ -79,7 +79,7 @@ module _ (d : Database) (line : Line) (bytes : List ℕ) (is : IsDatabase d) (wr
       )
 
 -- a change adds one number of states
-adds_once : (line new : Line) (n m : ℕ) → AddsTo line new n → AddsTo line new m → n ≡ m
+pub adds_once : (line new : Line) (n m : ℕ) → AddsTo line new n → AddsTo line new m → n ≡ m
 adds_once line new n m (inl a) (inl b) = a.1 ∙ sym b.1
 adds_once line new n m (inl a) (inr b) = absurd (b.0 (ap (λ (l : Line). l.current) a.0))
 adds_once line new n m (inr a) (inl b) = absurd (a.0 (ap (λ (l : Line). l.current) b.0))

@@ -7,7 +7,6 @@ use Rattle.rc_model.specs.declared.Event.{Event}
 use Rattle.rc_model.specs.declared.Mode.{Mode}
 use Rattle.rc_model.specs.declared.Mode.TheVariants.{DownAll}
 use Rattle.rc_model.specs.Names.{Has, Holds}
-use Rattle.rc_model.specs.Graph.{DownFrom}
 use Rattle.rc_model.specs.Database.{Database, IsDatabase}
 use Rattle.rc_model.specs.Headline.{TargetOfCommand}
 use Rattle.rc_model.specs.Line.{Line}
@@ -16,16 +15,11 @@ use Rattle.rc_model.specs.Session.{Change, IsLineOf}
 use Rattle.rc_model.proofs.ByteOrder.{one_place}
 use Rattle.rc_model.proofs.Members.{contains_at}
 use Rattle.rc_model.proofs.SetMembers.{has_within}
+use Rattle.rc_model.proofs.Closures.{down_more}
 use Rattle.rc_db.proofs.Values.{named_by_value}
 use Rattle.rc_session.proofs.States.{current_state}
 use Rattle.rc_update.specs.Carrying.{AreNamesOf, Carried, IsAlteredUp, IsUnaltered, StaysUp}
 use Rattle.rc_update.specs.Conversions.{Conversion}
-
--- closures of the same members are the same
-down_as : (needs : List (List ℕ)) (P Q : ℕ → Type 0) (s : ℕ) → ((t : ℕ) → P t → Q t)
-    → DownFrom needs P s → DownFrom needs Q s
-down_as needs P Q s each (inl member) = inl (each s member)
-down_as needs P Q s each (inr (t, member, path)) = inr (t, each t member, path)
 
 module _ (old new : Database) (list : List Conversion) (line : Line) (ask : Ask)
     (is : IsDatabase old) (of : IsLineOf old line)
@@ -74,20 +68,20 @@ module _ (old new : Database) (list : List Conversion) (line : Line) (ask : Ask)
           (IsWanted old.names line.current.table (Has line.current.live) ask) s) mode
           ((arrives s).0 has) in (
             there.0,
-            λ down. there.1 (down_as old.needs
+            λ down. there.1 (down_more old.needs
                 (IsAlteredUp old new list (Has line.current.live))
-                (IsWanted old.names line.current.table (Has line.current.live) ask) s
-                altered_wanted down),
+                (IsWanted old.names line.current.table (Has line.current.live) ask)
+                altered_wanted s down),
           ),
       λ stays. (arrives s).1
           (subst (λ (m : Mode). Target old.needs (Has line.current.live)
           (IsEssentialUp old (Has line.current.live)) m ask.prune
           (IsWanted old.names line.current.table (Has line.current.live) ask) s) (sym mode) (
             stays.0,
-            λ down. stays.1 (down_as old.needs
+            λ down. stays.1 (down_more old.needs
                 (IsWanted old.names line.current.table (Has line.current.live) ask)
-                (IsAlteredUp old new list (Has line.current.live)) s
-                (wanted_altered alone) down),
+                (IsAlteredUp old new list (Has line.current.live))
+                (wanted_altered alone) s down),
           )),
     )
 

@@ -17,6 +17,7 @@ use Rattle.rc_model.proofs.Lines.{states_one}
 use Rattle.rc_livetext.specs.Text.{LiveText, StateText, live_text}
 use Rattle.rc_livetext.specs.Spelling.{Spells, spelling, state_text, text_with}
 use Rattle.rc_history.specs.History.{first_state}
+use Rattle.rc_history.proofs.Ends.{first_push}
 use Rattle.rc_historytext.specs.declared.keeping.Keeping.TheVariants.{Step}
 use Rattle.rc_historytext.specs.declared.marks.Marks.{Marks}
 use Rattle.rc_historytext.specs.Text.{GenerationText, HistoryText}
@@ -24,7 +25,7 @@ use Rattle.rc_historytext.specs.Moves.{with_session, without_earlier, without_la
 use Rattle.rc_historytext.specs.States.{first_of, oldest_state}
 use Rattle.rc_historytext.specs.Marking.{AreMarks, first_of_two, is_alone, last_of_two, mark_alone}
 use Rattle.rc_historytext.specs.Keeping.{cut_earlier, cut_later, left_by}
-use Rattle.rc_historytext.proofs.TravelledLines.{first_pushed, next_not_alone, oldest_pushed}
+use Rattle.rc_historytext.proofs.TravelledLines.{next_not_alone, oldest_pushed}
 
 -- the oldest of at least two states is dropped before the current one
 pub record Drops (line : Line) (front : List State) : Type 0 where
@@ -47,7 +48,7 @@ pub record Grows (line new : Line) : Type 0 where
   pub front_is : (front ≡ line.before) ⊎ Drops line front
 
 -- one state beyond the bound
-record Shortened (before : List State) (current end : State) (bound : ℕ) : Type 0 where
+pub record Shortened (before : List State) (current end : State) (bound : ℕ) : Type 0 where
   gone : State
   first : State
   more : List State
@@ -64,7 +65,7 @@ record Shortened (before : List State) (current end : State) (bound : ℕ) : Typ
     bound = bound;
   }
 
-shortened : (before : List State) (current end : State) (bound : ℕ) → 3 ≤ bound
+pub shortened : (before : List State) (current end : State) (bound : ℕ) → 3 ≤ bound
     → bound < length ((before ++ current ∷ []) ++ end ∷ [])
     → Shortened before current end bound
 shortened [] current end bound few many = let low : bound < 2 = many in
@@ -174,7 +175,7 @@ module _ (line new : Line) (grows : Grows line new) where
   pub first_stays : grows.front ≡ line.before → first_state new ≡ first_state line
   first_stays same =
       ap (λ (ss : List State). first_in ss new.current) grown_before
-      ∙ first_pushed grows.front line.current new.current
+      ∙ first_push grows.front line.current new.current
       ∙ ap (λ (ss : List State). first_in ss line.current) same
     where
       first_in : List State → State → State

@@ -23,8 +23,9 @@ use Rattle.rc_update.specs.Distinct.{AreDistinct}
 use Rattle.rc_history.specs.History.{Generation, History, IsHistory, all_places, cursor_of}
 use Rattle.rc_history.specs.History.{generations, place_in, places_of}
 use Rattle.rc_history.specs.Moves.{cut_after}
-use Rattle.rc_history.specs.Promises.{AddsTo, IsUpdate}
+use Rattle.rc_history.specs.Promises.{IsUpdate}
 use Rattle.rc_history.specs.Stops.{ArePassed, IsPassedAt, IsStopBack}
+use Rattle.rc_history.proofs.Ends.{few_added}
 use Rattle.rc_historytext.specs.Text.{GenerationText}
 use Rattle.rc_historytext.specs.Present.{IsPresent}
 use Rattle.rc_historytext.specs.Places.{GivesHistory, all_marks}
@@ -73,10 +74,6 @@ one_state : (ss : List State) → length ss ≡ 1 → (s : State) × (ss ≡ s �
 one_state [] one = absurd (omega (arith, one))
 one_state (s ∷ []) one = (s, refl)
 one_state (s ∷ t ∷ ss) one = absurd (omega (arith, one))
-
-at_most_one : (line new : Line) (n : ℕ) → AddsTo line new n → n ≤ 1
-at_most_one line new n (inl none) = omega (arith, none.1)
-at_most_one line new n (inr one) = omega (arith, one.1)
 
 -- the parts of an update, one behind the other
 module _ (h : History) (marks : List Bool) (stop : IsStopBack marks h) (list : List Conversion)
@@ -198,7 +195,7 @@ module _ (h : History) (marks : List Bool) (stop : IsStopBack marks h) (list : L
   left_passed : (k : ℕ) → length (all_places n.room.earlier) + length f.front < k
       → k < length (all_places s.there.earlier) → IsPassedAt s.now k
   left_passed k low high =
-      let few = at_most_one h.present.line f.half.present.line (length f.ends) f.adds in
+      let few = few_added h.present.line f.half.present.line (length f.ends) f.adds in
       let one : length f.ends ≡ 1 = omega (arith, low, high, earlier_long, few) in
       let here : length (all_places n.room.earlier) + length f.half.present.line.before ≡ k =
       omega (arith, low, high, earlier_long, half_long, one) in
@@ -212,7 +209,7 @@ module _ (h : History) (marks : List Bool) (stop : IsStopBack marks h) (list : L
   here_passed : (k : ℕ) → length (all_places s.there.earlier) ≤ k → k < cursor_of s.there
       → IsPassedAt s.now k
   here_passed k low high =
-      let few = at_most_one n.there.present.line s.there.present.line
+      let few = few_added n.there.present.line s.there.present.line
       (length s.there.present.line.before) s.adds in
       let one : length s.there.present.line.before ≡ 1 = omega (arith, low, high, cursor_is, few) in
       let first_one = one_state s.there.present.line.before one in

@@ -12,11 +12,7 @@ use Rattle.rc_launch.specs.Halted.{IsRefusedOn}
 use Rattle.rc_launch.specs.HeldHistory.{Leads}
 use Rattle.rc_launch.specs.declared.going_back.Back.{Back}
 use Rattle.rc_launch.specs.declared.live_store.LiveStore.{LiveStore}
-
--- a test that is done, or not
-told : (b : Bool) (A : Type 0) → (b ≡ true → A) → (b ≡ false → A) → A
-told true A first second = first refl
-told false A first second = second refl
+use Rattle.rc_model.proofs.Tests.{told}
 
 -- without an undo a store is as it was
 pub undoes_none : (old : LiveStore) → Leads old old (UndoesTo 0)

@@ -36,6 +36,7 @@ use Rattle.rc_launch.proofs.HistoryCrashed.{CrashLaws, crashed}
 use Rattle.rc_launch.proofs.StillChange.{still, still_ask}
 use Rattle.rc_launch.proofs.UndoneOnce.{UndoLaws, change_undone}
 use Rattle.rc_launch.proofs.GivenPlaces.{entered_present, entered_step, given_place, place_is}
+use Rattle.rc_historytext.proofs.UpdatedBegins.{adds_once, places_once}
 
 -- what the laws below say of a change
 pub record ChangeLaws : Type 0 where
@@ -100,24 +101,6 @@ twice_kept d line new bytes kept there (first, one, two) =
     kept_stays Step bytes (spelling d line) first tt (database_text d, there) one in
     left_kept d line new bytes kept there
     (subst (λ (x : List ℕ). KeepsLeft d line new x kept) same two)
-
--- a change adds one number of states
-adds_once : (line new : Line) (n m : ℕ) → AddsTo line new n → AddsTo line new m → n ≡ m
-adds_once line new n m (inl a) (inl b) = a.1 ∙ sym b.1
-adds_once line new n m (inl a) (inr b) = absurd (b.0 (ap (λ (l : Line). l.current) a.0))
-adds_once line new n m (inr a) (inl b) = absurd (a.0 (ap (λ (l : Line). l.current) b.0))
-adds_once line new n m (inr a) (inr b) = a.1 ∙ sym b.1
-
--- so does an update
-places_once : (h : History) (list : List Conversion) (d : Database) (new : History)
-    (update : IsUpdate h list d new) (n m : ℕ) → AddsPlaces h list d new update n
-    → AddsPlaces h list d new update m → n ≡ m
-places_once h list d new update n m (a, b, first, second, is) (c, e, one, two, other) =
-    let same : a ≡ c =
-    adds_once h.present.line update.half.present.line a c first one in
-    let also : b ≡ e =
-    adds_once update.entered.present.line new.present.line b e second two in
-    is ∙ (λ i. same i + 1 + also i) ∙ sym other
 
 module _ (laws : ChangeLaws) where
   -- where a crash of a change leads

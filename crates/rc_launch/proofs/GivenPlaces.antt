@@ -30,12 +30,9 @@ use Rattle.rc_launch.specs.HistoryRecoveries.{HasPresent}
 use Rattle.rc_launch.specs.UpdateCrashes.{StandsOnPlace}
 use Rattle.rc_launch.proofs.PutTexts.{has_once}
 use Rattle.rc_launch.proofs.UndoneOnce.{UndoLaws, stands_so}
-
--- what holds of all holds of one of them
-middle_of : {A : Type 0} (P : A → Type 0) (xs : List A) (y : A) (ys : List A)
-    → All P (xs ++ y ∷ ys) → P y
-middle_of P [] y ys all = All-head P y ys all
-middle_of P (x ∷ xs) y ys all = middle_of P xs y ys (All-tail P x (xs ++ y ∷ ys) all)
+use Rattle.rc_historytext.proofs.Kept.{as_oldest_count}
+use Rattle.rc_historytext.proofs.Presents.{at_end}
+use Rattle.rc_model.proofs.Lists.{all_between}
 
 -- the text at a place tells the generation there
 each_told : (gs : List GenerationText) (hs : List Generation) (k : Generation)
@@ -64,7 +61,7 @@ pub record GivenPresent (bytes : List ℕ) (h : History) : Type 0 where
 pub given : (bytes : List ℕ) (h : History) (marks : List Bool) → IsHistory h
     → GivesHistory bytes h marks → GivenPresent bytes h
 given bytes h marks is gives =
-    let own = middle_of IsGeneration h.earlier h.present h.later is.each in
+    let own = all_between IsGeneration h.earlier h.present h.later is.each in
     let told = first_told gives.t.generations h.earlier h.present h.later gives.tells.each in
     record {
       session = told.0.session;
@@ -84,7 +81,7 @@ given bytes h marks is gives =
         );
         is_database = own.database;
         writable =
-            middle_of (λ (g : Generation). IsWritable g.base) h.earlier h.present h.later
+            all_between (λ (g : Generation). IsWritable g.base) h.earlier h.present h.later
             gives.writable;
       };
       is_line = own.line;
@@ -122,19 +119,6 @@ module _ (laws : UndoLaws) where
       laws.line h.present.base g.session line h.present.line g.has.is_database own.0 g.is_line
       (inl (sym once.1 ∙ own.1)) g.spells in
       (once.0, ap (λ (l : Line). l.current) same)
-
--- the generation at the end
-at_end : (gs : List GenerationText) (g : GenerationText) (k : ℕ) → k ≡ length gs
-    → slice_get (gs ++ g ∷ []) k ≡ Some g
-at_end [] g zero here = refl
-at_end [] g (suc k) here = absurd (omega (arith, here))
-at_end (f ∷ gs) g zero here = absurd (omega (arith, here))
-at_end (f ∷ gs) g (suc k) here = at_end gs g k (omega (arith, here))
-
-as_oldest_count : (gs : List GenerationText) → length (as_oldest (drop 1 gs)) ≡ length gs - 1
-as_oldest_count [] = refl
-as_oldest_count (g ∷ []) = refl
-as_oldest_count (g ∷ f ∷ gs) = omega arith
 
 -- the present generation is still the last one, once there is room for one more
 room_last : (t : HistoryText) → length t.generations ≡ t.present + 1

@@ -12,17 +12,19 @@ use Rattle.rc_model.specs.Line.{put_between, put_last, shorter, states, with_liv
 use Rattle.rc_model.specs.Plan.{Ask}
 use Rattle.rc_model.specs.Session.{Change, Does, IsLineOf, IsStateOf, Redo, Reported, Undo}
 use Rattle.rc_launch.specs.WayCrashes.{LineHasRoom}
+use Rattle.rc_model.proofs.Fitting.{fitted_short}
+use Rattle.rc_model.proofs.Lines.{all_to, differ_front}
 
 -- a line with one state more behind the current one, and none after it; the oldest may be dropped,
 -- but one stays before the current one if there was one
-pub record Grows (line new : Line) : Type 0 where
+pub record EndsBehind (line new : Line) : Type 0 where
   pub front : List State
   pub before : new.before ≡ front ++ line.current ∷ []
   pub after : new.after ≡ []
   pub first : front ≡ [] → line.before ≡ []
 
 -- one state beyond the bound
-record Shortened (before : List State) (current end : State) (bound : ℕ) : Type 0 where
+record LosesFirst (before : List State) (current end : State) (bound : ℕ) : Type 0 where
   front : List State
   is : shorter (before ++ current ∷ []) (record {
     before = before ++ current ∷ [];
@@ -39,7 +41,7 @@ record Shortened (before : List State) (current end : State) (bound : ℕ) : Typ
 
 shortened : (before : List State) (current end : State) (bound : ℕ) → 3 ≤ bound
     → bound < length ((before ++ current ∷ []) ++ end ∷ [])
-    → Shortened before current end bound
+    → LosesFirst before current end bound
 shortened [] current end bound few many =
     let low : bound < 2 = many in absurd (omega (arith, few, low))
 shortened (b ∷ []) current end bound few many =
@@ -48,11 +50,11 @@ shortened (b ∷ r ∷ rs) current end bound few many =
     record { front = r ∷ rs; is = refl; some = λ none. absurd (omega (arith, ap length none)) }
 
 grows_by : (line new : Line) (end : State) → 3 ≤ line.bound
-    → new ≡ within_bound (put_last line end) → Grows line new
+    → new ≡ within_bound (put_last line end) → EndsBehind line new
 grows_by line new end few is =
     by (ltb line.bound (length (states (put_last line end)))) refl
   where
-    by : (b : Bool) → ltb line.bound (length (states (put_last line end))) ≡ b → Grows line new
+    by : (b : Bool) → ltb line.bound (length (states (put_last line end))) ≡ b → EndsBehind line new
     by false fits =
         let same : new ≡ put_last line end = is ∙ ap (λ (b : Bool). if b
         then shorter (put_last line end).before (put_last line end) else put_last line end) fits in
@@ -78,7 +80,7 @@ grows_by line new end few is =
 -- a change leaves a line as it was, or puts a state behind the current one
 pub grown : (d : Database) (line new : Line) (ask : Ask) (events : List Event) (report : Reported)
     → IsLineOf d line → Does d line (Change ask events) report new
-    → (new ≡ line) ⊎ Grows line new
+    → (new ≡ line) ⊎ EndsBehind line new
 grown d line new ask events report of (inr edit) = absurd edit.altered
 grown d line new ask events report of (inl run) = elim run.moved [
   | inl stays ↦ inl stays.1
@@ -122,29 +124,16 @@ back_from new back front a before next =
 abbrev pub cut_line : Line → Line
 cut_line line = record line { after = [] }
 
-front_all : (P : State → Type 0) (xs : List State) (y : State) (ys : List State)
-    → All P (xs ++ y ∷ ys) → All P (xs ++ y ∷ [])
-front_all P [] y ys all = All-cons P y [] (All-head P y ys all) (All-nil P)
-front_all P (x ∷ xs) y ys all =
-    All-cons P x (xs ++ y ∷ []) (All-head P x (xs ++ y ∷ ys) all)
-    (front_all P xs y ys (All-tail P x (xs ++ y ∷ ys) all))
-
-front_differs : (xs : List State) (y : State) (ys : List State) → DifferInTurn (xs ++ y ∷ ys)
-    → DifferInTurn (xs ++ y ∷ [])
-front_differs [] y ys differ = tt
-front_differs (x ∷ []) y ys differ = (differ.0, tt)
-front_differs (x ∷ z ∷ xs) y ys differ = (differ.0, front_differs (z ∷ xs) y ys differ.1)
-
 pub cut_of : (d : Database) (line : Line) → IsLineOf d line → IsLineOf d (cut_line line)
 cut_of d line of = record {
   is_line = record {
     held = record {
-      differ = front_differs line.before line.current line.after of.is_line.held.differ;
+      differ = differ_front line.before line.current line.after of.is_line.held.differ;
       bounds =
-          front_all (λ s. length s.live ≡ length line.current.live) line.before line.current
+          all_to (λ s. length s.live ≡ length line.current.live) line.before line.current
           line.after of.is_line.held.bounds;
       tables =
-          front_all (λ s. IsTable s.table) line.before line.current line.after
+          all_to (λ s. IsTable s.table) line.before line.current line.after
           of.is_line.held.tables;
     };
     bound = of.is_line.bound;
@@ -155,13 +144,8 @@ cut_of d line of = record {
       length-append line.before (line.current ∷ []),
     );
   };
-  each = front_all (IsStateOf d) line.before line.current line.after of.each;
+  each = all_to (IsStateOf d) line.before line.current line.after of.each;
 }
-
-fits : (line : Line) → length (states line) ≤ line.bound → within_bound line ≡ line
-fits line few =
-    ap (λ (b : Bool). if b then shorter line.before line else line)
-    (le-ltb line.bound (length (states line)) few)
 
 -- an undo leaves a line as it was, or comes to the state before, or puts a state between
 pub undone_line : (d : Database) (line new : Line) (limit : ℕ) (events : List Event)
@@ -186,7 +170,7 @@ undone_line d line new limit events report room (inl run) = by run.moved
           length-append line.before (with_live line run.live ∷ back.after),
           ap length next.reached,
         ) in
-        inr (inr (ap (λ (l : Line). l.before) (is ∙ fits put many)))
+        inr (inr (ap (λ (l : Line). l.before) (is ∙ fitted_short put many)))
 
 -- a redo leaves a line as it was, or puts a state behind the current one or comes to the next
 pub redone_line : (d : Database) (line new : Line) (limit : ℕ) (events : List Event)
@@ -210,4 +194,4 @@ redone_line d line new limit events report room (inl run) = by run.moved
           ap length next.left,
           length-append line.before (line.current ∷ []),
         ) in
-        inr (ap (λ (l : Line). l.before) (is ∙ fits put many) ∙ next.left)
+        inr (ap (λ (l : Line). l.before) (is ∙ fitted_short put many) ∙ next.left)

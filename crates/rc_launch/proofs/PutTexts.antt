@@ -17,6 +17,7 @@ use Rattle.rc_historytext.specs.Present.{IsAt, IsPresent}
 use Rattle.rc_historytext.specs.Keeping.{IsKept, IsPut, StandsThere, cut_earlier, cut_later}
 use Rattle.rc_launch.specs.HistoryRecoveries.{HasPresent}
 use Rattle.rc_launch.specs.HistoryCrashes.{IsOfRun}
+use Rattle.rc_historytext.proofs.UpdatedTexts.{put_there, taken_there}
 
 -- what the laws of the texts say
 pub record TextLaws : Type 0 where
@@ -59,28 +60,6 @@ module _ (laws : TextLaws) where
             (ap (λ (x : List ℕ). x ++ []) same.0),
         same.1,
       )
-
--- another session, with other marks
-put_there : (k : ℕ) (gs : List GenerationText) (g : GenerationText) (session : List ℕ)
-    (first last : Bool) → slice_get gs k ≡ Some g
-    → slice_get (with_session_at k gs session first last) k
-    ≡ Some (record g { session = session; first_passed = first; last_passed = last })
-put_there k [] g session first last there = absurd (none-some g there)
-put_there zero (f ∷ gs) g session first last there =
-    ap (λ (x : GenerationText). Some (record x {
-      session = session;
-      first_passed = first;
-      last_passed = last;
-    })) (same_Some f g there)
-put_there (suc k) (f ∷ gs) g session first last there = put_there k gs g session first last there
-
--- those up to a place
-taken_there : {A : Type 0} (n k : ℕ) (xs : List A) → k < n
-    → slice_get (take n xs) k ≡ slice_get xs k
-taken_there zero k xs low = absurd (omega (arith, low))
-taken_there (suc n) k [] low = refl
-taken_there (suc n) zero (x ∷ xs) low = refl
-taken_there (suc n) (suc k) (x ∷ xs) low = taken_there n k xs (omega (arith, low))
 
 -- those from a place on
 dropped_there : (k : ℕ) (gs : List GenerationText) (g : GenerationText) → slice_get gs k ≡ Some g

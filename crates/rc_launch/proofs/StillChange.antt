@@ -17,18 +17,13 @@ use Rattle.rc_model.specs.Run.{CanMove, Course, HasFailed, IsLeft, IsPlanned}
 use Rattle.rc_model.specs.Run.{IsStopped, course_of}
 use Rattle.rc_model.specs.Session.{Change, Does, EndsWith, edit_report}
 use Rattle.rc_model.proofs.RunLemmas.{run_empty}
-
-none_happened : (event : Event) → Contains [] event → ⊥
-none_happened event at = absurd (omega (arith, at.1))
+use Rattle.rc_core.proofs.Opening.{none_happened}
+use Rattle.rc_session.proofs.Beginning.{nothing_live}
+use Rattle.rc_model.proofs.Telling.{lists_none}
 
 -- to lower nothing
 abbrev pub still_ask : Ask
 still_ask = record { mode = DownAll; prune = false; all = false; words = []; limit = 0 }
-
-none_has : (n s : ℕ) → Has (replicate n false) s → ⊥
-none_has zero s is = true≢false (sym is)
-none_has (suc n) zero is = true≢false (sym is)
-none_has (suc n) (suc s) is = none_has n s is
 
 none_long : (n : ℕ) → length (replicate n false) ≡ n
 none_long zero = refl
@@ -40,12 +35,6 @@ still_plan live = record {
   lower = replicate (length live) false;
   raise = replicate (length live) false;
   kept = replicate (length live) false;
-}
-
-no_ids : (P : ℕ → Type 0) → ((s : ℕ) → P s → ⊥) → Lists P []
-no_ids P never = record {
-  ascending = λ i j x below within. absurd (omega (arith, within));
-  same = λ s. (λ at. absurd (omega (arith, at.1)), λ is. absurd (never s is));
 }
 
 -- what is live stays so
@@ -86,26 +75,26 @@ module _ (d : Database) (line : Line) where
   plan_is = record {
     opening = refl;
     lower = λ s. (
-      λ has. absurd (none_has count s has),
+      λ has. absurd (nothing_live count s has),
       λ goes. absurd (goes.1 (stays s goes.0)),
     );
     raise = λ s. (
-      λ has. absurd (none_has count s has),
+      λ has. absurd (nothing_live count s has),
       λ comes. absurd (comes.1 comes.0.0),
     );
-    kept = λ s. (λ has. absurd (none_has count s has), λ kept. absurd kept);
+    kept = λ s. (λ has. absurd (nothing_live count s has), λ kept. absurd kept);
     lower_bound = none_long count;
     raise_bound = none_long count;
     kept_bound = none_long count;
   }
 
   none_planned : (s : ℕ) → IsPlanned c s → ⊥
-  none_planned s (inl lower) = none_has count s lower
-  none_planned s (inr raise) = none_has count s raise
+  none_planned s (inl lower) = nothing_live count s lower
+  none_planned s (inr raise) = nothing_live count s raise
 
   none_moves : (s : ℕ) → CanMove c [] s → ⊥
-  none_moves s (inl sinks) = none_has count s sinks.planned
-  none_moves s (inr rises) = none_has count s rises.planned
+  none_moves s (inl sinks) = nothing_live count s sinks.planned
+  none_moves s (inr rises) = nothing_live count s rises.planned
 
   ends : EndsWith c [] line.current.live
   ends = record {
@@ -139,14 +128,14 @@ module _ (d : Database) (line : Line) where
     moved = inl (refl, refl);
     is_report = record {
       opening = refl;
-      lowered = no_ids (IsGained line.current.live line.current.live) not_gained;
-      raised = no_ids (IsGained line.current.live line.current.live) not_gained;
+      lowered = lists_none (IsGained line.current.live line.current.live) not_gained;
+      raised = lists_none (IsGained line.current.live line.current.live) not_gained;
       failed =
-          no_ids (HasFailed []) (λ s failed. none_happened (Done failed.0 s failed.1) failed.2);
+          lists_none (HasFailed []) (λ s failed. none_happened (Done failed.0 s failed.1) failed.2);
       blocked =
-          no_ids (λ s. IsLeft c [] s × (IsStopped [] → ⊥)) (λ s left. none_planned s left.0.0);
-      untried = no_ids (λ s. IsLeft c [] s × IsStopped []) (λ s left. none_planned s left.0.0);
-      kept = no_ids (Has (replicate count false)) (none_has count);
+          lists_none (λ s. IsLeft c [] s × (IsStopped [] → ⊥)) (λ s left. none_planned s left.0.0);
+      untried = lists_none (λ s. IsLeft c [] s × IsStopped []) (λ s left. none_planned s left.0.0);
+      kept = lists_none (Has (replicate count false)) (nothing_live count);
       stopped = (
         λ bad. absurd (true≢false (sym bad)),
         λ stopped. absurd (none_happened (Stop stopped.0 stopped.1) stopped.2),

@@ -36,6 +36,7 @@ use Rattle.rc_launch.proofs.GrownLines.{back_from, cut_line, cut_of, grown, none
 use Rattle.rc_launch.proofs.GrownLines.{redone_line, undone_line}
 use Rattle.rc_launch.proofs.PutTexts.{TextLaws, has_once, kept_cases, place_once, present_once}
 use Rattle.rc_launch.proofs.PutTexts.{kept_stays, put_stands}
+use Rattle.rc_historytext.proofs.TravelledLines.{no_count}
 
 -- what the laws of sessions and their texts say
 pub record UndoLaws : Type 0 where
@@ -93,10 +94,6 @@ passed_before keeping bytes session kept (t, g, new, at, puts, spelled) alone pa
     (and_parts puts.m.keeps_first (first_mark keeping g.first_passed old)
     (sym (are.first ∙ ap (λ (b : Bool). if b then mark_alone keeping puts.m g old next
     else first_of_two keeping puts.m g old) alone) ∙ passed)).1
-
-no_count : {A : Type 0} (xs : List A) → xs ≢ [] → (length xs == 0) ≡ false
-no_count [] some = absurd (some refl)
-no_count (x ∷ xs) some = ne_eqb (suc (length xs)) 0 (λ same. absurd (omega (arith, same)))
 
 no_mapped : {A B : Type 0} (f : A → B) (xs : List A) → xs ≢ [] → map f xs ≢ []
 no_mapped f [] some none = some refl

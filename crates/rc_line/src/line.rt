@@ -14,7 +14,7 @@ use crate::fault::LineFault;
 use crate::opening::Open;
 use crate::room::Room;
 use crate::stack::{fit, make_room, nearest, spend_all, take_last};
-use crate::step::end_step;
+use crate::step::{Reached, end_step};
 use crate::tables::{led, replace};
 use rc_bundle::Edit;
 use rc_db::Table;
@@ -396,8 +396,10 @@ impl Line {
             &mut self.live,
             &mut self.table,
             opening,
-            live,
-            false,
+            Reached {
+                end: live,
+                ahead: false,
+            },
         );
         fit(&mut self.done, &mut self.undone, self.bound);
     }
@@ -416,8 +418,10 @@ impl Line {
             &mut self.live,
             &mut self.table,
             opening,
-            live,
-            true,
+            Reached {
+                end: live,
+                ahead: true,
+            },
         );
         fit(&mut self.done, &mut self.undone, self.bound);
     }

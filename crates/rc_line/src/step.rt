@@ -13,6 +13,12 @@ use rc_db::Table;
 use rc_set::Set;
 use std::collections::VecDeque;
 
+/// Where a move to a neighbour ended, and which way it went.
+pub(crate) struct Reached<'a> {
+    pub(crate) end: &'a Set,
+    pub(crate) ahead: bool,
+}
+
 /// Ends a move over the nearest entry of a stack, ahead or back. If the move ends as it aimed, the
 /// entry goes to the other stack. If nothing moved, it stays. Otherwise it is split in two. Takes
 /// no memory.
@@ -22,18 +28,18 @@ pub(crate) fn end_step(
     live: &mut Set,
     table: &mut Table,
     opening: Open,
-    end: &Set,
-    ahead: bool,
+    reached: Reached<'_>,
 )
     requires entry { 0 < deque_len from.old }
     requires room { HasSpare (deque_capacity to.old) (deque_len to.old) }
-    requires aim { opening.aim ≡ aim_of ahead }
+    requires aim { opening.aim ≡ aim_of reached.ahead }
     requires target { length opening.live ≡ length live.old }
-    requires end { length end.now ≡ length live.old }
-    ensures { EndsNearest ahead from.old.items to.old.items (state live.old table.old)
-        (state opening.live (table_or opening.table table.old)) end.now
+    requires end { length reached.end.now ≡ length live.old }
+    ensures { EndsNearest reached.entry.ahead from.old.items to.old.items (state live.old table.old)
+        (state opening.live (table_or opening.table table.old)) reached.entry.end.now
         from.new.items to.new.items (state live.new table.new) }
 {
+    let Reached { end, ahead } = reached;
     let Open {
         aim: _,
         live: target,

@@ -6,12 +6,12 @@ use Rattle.std.proofs.Common.{Option, Some, None, IfSome, refl, sym, ap, subst, 
 use Rattle.std.proofs.Common.{length-append}
 use Rattle.std.proofs.lemmas.Bool.{cases_lt}
 use Rattle.std.proofs.lemmas.List.{append-nil, map-append, take-append-drop, take_all, length-take}
-use Rattle.std.proofs.lemmas.List.{length-drop}
-use Rattle.rc_dbtext.proofs.LineWords.{append-cancel}
+use Rattle.std.proofs.lemmas.List.{length-drop, append_cancel_left}
 use Rattle.std.proofs.lemmas.List.Elements.{All-head, All-tail, All-nil, All-cons}
 use Rattle.std.proofs.Math.ListN.{get_or-append}
 use Rattle.std.specs.List.{flat_map}
 use Rattle.rc_model.specs.Names.{IsInByteOrder}
+use Rattle.rc_model.proofs.Lists.{push_append}
 use Rattle.rc_dbtext.specs.Words.{BundleText}
 use Rattle.rc_dbtext.specs.Form.{spells}
 use Rattle.rc_livetext.specs.Text.{Line, OfBundle, Last, StateText, LiveText, IsStateText}
@@ -48,9 +48,6 @@ front_order xs ys order i j d low within =
     let first : get_or (xs ++ ys) i d ≡ get_or xs i d = get_or-append xs ys d i (omega arith) in
     let second : get_or (xs ++ ys) j d ≡ get_or xs j d = get_or-append xs ys d j within in
     rw (first, second) at (order i j d low (omega (arith, length-append xs ys)))
-
-push_append : {X : Type 0} (xs : List X) (y : X) (ys : List X) → (xs ++ y ∷ []) ++ ys ≡ xs ++ y ∷ ys
-push_append xs y ys = append_assoc xs (y ∷ []) ys
 
 -- the bundles of a state, after some of them
 bundles_may : (seen : Bool) (bs cs : List BundleText) → IsInByteOrder (map (λ b. b.name) (bs ++ cs))
@@ -232,7 +229,7 @@ next_may ls other rest tail said is long same = by (drop (length ls) (live_lines
         let here : May (place_after AtFirst ls) l = ((may_split AtFirst ls (l ∷ more) may).1).0 in (
           l,
           here,
-          append-cancel (spells spell ls) rest (spell l ++ tail)
+          append_cancel_left (spells spell ls) rest (spell l ++ tail)
               (stands ∙ ap (λ (x : List Line). spells spell x ++ (spell l ++ tail)) fronts),
         )
 

@@ -8,6 +8,7 @@ use Rattle.std.specs.Option.{option_map}
 use Rattle.rc_model.specs.Database.{Database, IsDatabase, AreApart}
 use Rattle.rc_model.specs.Line.{State, Line, IsLine, DifferInTurn, states, cursor}
 use Rattle.rc_model.specs.Session.{IsStateOf, IsLineOf}
+use Rattle.rc_model.proofs.Lists.{all_at}
 use Rattle.rc_dbtext.specs.Words.{BundleText}
 use Rattle.rc_livetext.specs.Text.{LiveText, StateText}
 use Rattle.rc_dbtext.proofs.Naming.{member_mapped}
@@ -21,7 +22,6 @@ use Rattle.rc_livetext.specs.Meaning.{TextsDiffer, all_states}
 use Rattle.rc_livetext.specs.Parts.{HasNeeds, IsTextOf, IsWithin, MakeLine, MakeNone, bound_for}
 use Rattle.rc_livetext.specs.Spelling.{state_text, text_with}
 use Rattle.rc_livetext.proofs.Naming.{closed_named}
-use Rattle.rc_livetext.proofs.OneFault.{at_place}
 use Rattle.rc_livetext.proofs.Pairs.{split}
 use Rattle.rc_livetext.proofs.Texts.{names_kept, states_differ, texts_differ}
 
@@ -65,7 +65,7 @@ module _ (d : Database) (is : IsDatabase d) (t : LiveText) (ss : List State)
       → IsFirstNot (IsClosedState d) (all_states t) place
   first_open_over place (s, at, lacks, before) =
       let here : IsWithin (length d.names) s =
-      at_place (IsWithin (length d.names)) ss place s at within in
+      all_at (IsWithin (length d.names)) ss place s at within in
       let front : All (IsWithin (length d.names)) (take place ss) =
       All-take (IsWithin (length d.names)) place ss within in
       subst (λ (l : List StateText). IsFirstNot (IsClosedState d) l place) same (

@@ -11,6 +11,7 @@ use Rattle.rc_dbtext.proofs.Plain.{plain_from, plain_name, plain_names, plain_wo
 use Rattle.rc_dbtext.proofs.Plain.{plain_decimal, no_words}
 use Rattle.rc_dbtext.proofs.Texts.{one_text, text_decimal, text_from, text_names}
 use Rattle.rc_dbtext.proofs.LineWords.{each_cons}
+use Rattle.rc_model.proofs.Lists.{word_at}
 pub use Rattle.rc_livetext.specs.Saying.{IsSaid}
 use Rattle.rc_livetext.specs.Text.{Line, First, OfServices, OfBound, OfState, OfBundle, Last, words}
 use Rattle.rc_livetext.specs.Text.{version_word, state_word}
@@ -74,9 +75,6 @@ mark ws = get_or (get_or ws 0 []) 0 0 + get_or (get_or ws 0 []) 1 0
 
 marked : (a b : Line) → words a ≡ words b → mark (words a) ≡ mark (words b)
 marked a b same = ap (λ (ws : List (List ℕ)). mark ws) same
-
-word_at : (k : ℕ) (ws vs : List (List ℕ)) → ws ≡ vs → get_or ws k [] ≡ get_or vs k []
-word_at k ws vs same = ap (λ (l : List (List ℕ)). get_or l k []) same
 
 version_once : (a b : Bool) → version_word a ≡ version_word b → a ≡ b
 version_once true true same = refl

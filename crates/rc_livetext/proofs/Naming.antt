@@ -7,10 +7,10 @@ use Rattle.rc_model.specs.Names.{Has, IsInByteOrder}
 use Rattle.rc_names.specs.Names.{IsNamed}
 use Rattle.rc_model.proofs.ByteOrder.{one_place}
 use Rattle.rc_model.specs.Graph.{IsClosed}
+use Rattle.rc_model.proofs.SetMembers.{has_within}
 use Rattle.rc_dbtext.specs.Spelling.{members, name_at}
 use Rattle.rc_dbtext.proofs.Bundling.{has_member, member_has}
 use Rattle.rc_dbtext.proofs.Naming.{mapped_member, member_mapped}
-use Rattle.rc_dbtext.proofs.Spelled.{has_low}
 use Rattle.rc_dbtext.proofs.Unique.{members_low}
 
 module _ (names : List (List ℕ)) (order : IsInByteOrder names) (set : List Bool)
@@ -25,14 +25,14 @@ module _ (names : List (List ℕ)) (order : IsInByteOrder names) (set : List Boo
   pub has_named : (id : ℕ) → Has set id ↔ IsNamed names (map (name_at names) (members set)) id
   has_named id = (
     λ has.
-        let low : id < length set = has_low set id has in (
+        let low : id < length set = has_within set id has in (
           name_at names id,
           slice_get-get_or names id [] (omega arith),
           mapped_member (name_at names) (members set) id (member_has set id has),
         ),
     λ (name, at, listed).
         let found = member_mapped (name_at names) (members set) name listed in
-        let low : found.0 < length set = has_low set found.0 (has_member set found.0 found.1) in
+        let low : found.0 < length set = has_within set found.0 (has_member set found.0 found.1) in
         let here : slice_get names found.0 ≡ Some name =
         slice_get-get_or names found.0 [] (omega arith) ∙ ap (λ (n : List ℕ). Some n) found.2 in
         subst (Has set) (one_place names name found.0 id order here at)

@@ -2,8 +2,10 @@
 use Rattle.std.proofs.Common.{◌≡◌, ◌≢◌, ◌∙◌, ◌+◌, ◌<◌, ◌++◌, ◌∷◌, ◌⊎◌, inl, inr, ℕ, zero, suc, List}
 use Rattle.std.proofs.Common.{[], Some, length, take, slice_get, All, arith, refl, sym, ap, subst}
 use Rattle.std.proofs.lemmas.List.Elements.{All-head, All-tail}
-use Rattle.std.proofs.lemmas.Option.{slice_get_within, get_or_from_slice_get}
+use Rattle.std.proofs.lemmas.Option.{slice_get_within}
+use Rattle.std.proofs.lemmas.List.{append_cancel_left}
 use Rattle.rc_model.specs.Database.{Database}
+use Rattle.rc_model.proofs.Lists.{all_at}
 use Rattle.rc_livetext.specs.declared.form_fault.FormFault.{FormFault}
 use Rattle.rc_livetext.specs.declared.form_fault.FormFault.TheVariants as form
 use Rattle.rc_livetext.specs.Text.{LiveText, IsLiveText, live_text}
@@ -31,12 +33,6 @@ IsFirstOpen d t place = IsFirstNot (IsClosedState d) (all_states t) place
 abbrev pub IsOneRefusal : Type 0
 IsOneRefusal = (bytes : List ℕ) (a b : FormFault) → IsRefused bytes a → IsRefused bytes b
     → a ≢ form.Memory → b ≢ form.Memory → a ≡ b
-
--- what all are, the one at a place is
-pub at_place : {X : Type 0} (P : X → Type 0) (xs : List X) (p : ℕ) (s : X) → slice_get xs p ≡ Some s
-    → All P xs → P s
-at_place P xs p s there all =
-    subst P (get_or_from_slice_get xs p s s there) (all p s (slice_get_within xs p s there))
 
 -- what all before a place are, the one at a lower place is
 below : {X : Type 0} (P : X → Type 0) (xs : List X) (p q : ℕ) (s : X) → p < q
@@ -74,7 +70,7 @@ first_once d t p q of_p of_q = elim (order p q) [
 pub not_all_closed : (d : Database) (t : LiveText) (p : ℕ) → IsFirstOpen d t p
     → All (IsClosedState d) (all_states t) → ⊥
 not_all_closed d t p first all =
-    first.2 (at_place (IsClosedState d) (all_states t) p first.0 first.1 all)
+    first.2 (all_at (IsClosedState d) (all_states t) p first.0 first.1 all)
 
 -- the tests of what a text says exclude each other
 one_meaning : (d : Database) (t : LiveText) (a b : LiveFault) → IsMeaningFault d t a
@@ -169,10 +165,6 @@ one_why d t rest a b of_a of_b not_a not_b = elim of_a [
   ]
 ]
 
-append-cancel : (text x y : List ℕ) → text ++ x ≡ text ++ y → x ≡ y
-append-cancel [] x y same = same
-append-cancel (c ∷ text) x y same = append-cancel text x y cc
-
 module _ (laws : FormLaws) (one : IsOneRefusal) (d : Database) where
   -- a text stands in front, or its form is refused, and not both
   not_both : (bytes : List ℕ) (a b : LiveFault) → IsOfForm bytes a → IsOfText d bytes b → ⊥
@@ -187,7 +179,7 @@ module _ (laws : FormLaws) (one : IsOneRefusal) (d : Database) where
       let (u, other, begins_u, why_b) = of_b in
       let text : t ≡ u =
       laws.value t u rest other begins.0 begins_u.0 (sym begins.1 ∙ begins_u.1) in
-      let behind : rest ≡ other = append-cancel (live_text t) rest other
+      let behind : rest ≡ other = append_cancel_left (live_text t) rest other
       (sym begins.1 ∙ begins_u.1 ∙ ap (λ (v : LiveText). live_text v ++ other) (sym text)) in
       one_why d t rest a b why_a
       (subst (λ (l : List ℕ). Why d t l b) (sym behind)

@@ -5,31 +5,25 @@ use Rattle.std.proofs.Common.{All, Option, Some, None, IfSome, refl, ap, sym, su
 use Rattle.std.proofs.Common.{length-append}
 use Rattle.std.proofs.lemmas.List.{length-map, append-nil}
 use Rattle.std.proofs.lemmas.List.Elements.{All-head, All-tail, All-nil, All-cons, All-map}
+use Rattle.std.proofs.lemmas.Option.{same_Some}
 use Rattle.rc_model.specs.Names.{IsName, IsInByteOrder}
 use Rattle.rc_model.specs.Database.{Bundles, IsTable, HaveBound, names_of, Database, IsDatabase}
 use Rattle.rc_model.specs.Line.{State, Line, DifferInTurn, states}
 use Rattle.rc_model.specs.Session.{IsStateOf, IsLineOf}
+use Rattle.rc_model.proofs.Lists.{all_front, all_back}
 use Rattle.rc_dbtext.specs.Words.{BundleText}
 use Rattle.rc_dbtext.specs.Spelling.{bundle_text, members, name_at}
 use Rattle.rc_dbtext.proofs.Naming.{names_ascend}
 use Rattle.rc_dbtext.proofs.Bundling.{members_ascend}
 use Rattle.rc_dbtext.proofs.Unique.{flags_once, head_once, ids_once, members_low, tables_once}
 use Rattle.rc_dbtext.proofs.Unique.{tail_once}
+use Rattle.rc_line.proofs.Closings.{same_line}
 use Rattle.rc_livetext.specs.Text.{LiveText, StateText, IsLiveText, IsStateText, IsBundleText}
 use Rattle.rc_livetext.specs.Text.{AreAscending, IsBound, live_text}
 use Rattle.rc_livetext.specs.Meaning.{TextsDiffer}
 use Rattle.rc_livetext.specs.Parts.{IsWithin}
 use Rattle.rc_livetext.specs.Spelling.{state_text, text_with, text_of, old_text_of, spelling}
 use Rattle.rc_livetext.specs.Spelling.{old_spelling, Spells}
-
-pub front : {X : Type 0} (P : X → Type 0) (xs ys : List X) → All P (xs ++ ys) → All P xs
-front P [] ys h = All-nil P
-front P (x ∷ xs) ys h =
-    All-cons P x xs (All-head P x (xs ++ ys) h) (front P xs ys (All-tail P x (xs ++ ys) h))
-
-pub rear : {X : Type 0} (P : X → Type 0) (xs ys : List X) → All P (xs ++ ys) → All P ys
-rear P [] ys h = h
-rear P (x ∷ xs) ys h = rear P xs ys (All-tail P x (xs ++ ys) h)
 
 -- the bundles of a table keep their names
 pub names_kept : (names : List (List ℕ)) (table : Bundles)
@@ -85,15 +79,15 @@ module _ (d : Database) (is : IsDatabase d) where
   line_is_text line of bound is_bound =
       let Kept : State → Type 0 = λ s. IsTable s.table in
       let tables : All Kept (line.before ++ line.current ∷ line.after) = of.is_line.held.tables in
-      let tables_on = rear Kept line.before (line.current ∷ line.after) tables in
-      let of_on = rear (IsStateOf d) line.before (line.current ∷ line.after) of.each in
+      let tables_on = all_back Kept line.before (line.current ∷ line.after) tables in
+      let of_on = all_back (IsStateOf d) line.before (line.current ∷ line.after) of.each in
       record {
         services = record { order = is.names.order; each = is.names.each };
         bound = is_bound;
         before =
             states_are line.before
-            (front (IsStateOf d) line.before (line.current ∷ line.after) of.each)
-            (front Kept line.before (line.current ∷ line.after) tables);
+            (all_front (IsStateOf d) line.before (line.current ∷ line.after) of.each)
+            (all_front Kept line.before (line.current ∷ line.after) tables);
         current =
             state_is line.current (All-head (IsStateOf d) line.current line.after of_on)
             (All-head Kept line.current line.after tables_on);
@@ -174,25 +168,19 @@ module _ (d : Database) (is : IsDatabase d) where
       let Is : State → Type 0 = IsWithin (length d.names) in
       let all_a : All Is (a.before ++ a.current ∷ a.after) = all_within d (states a) of_a.each in
       let all_b : All Is (b.before ++ b.current ∷ b.after) = all_within d (states b) of_b.each in
-      let on_a : All Is (a.current ∷ a.after) = rear Is a.before (a.current ∷ a.after) all_a in
-      let on_b : All Is (b.current ∷ b.after) = rear Is b.before (b.current ∷ b.after) all_b in
+      let on_a : All Is (a.current ∷ a.after) = all_back Is a.before (a.current ∷ a.after) all_a in
+      let on_b : All Is (b.current ∷ b.after) = all_back Is b.before (b.current ∷ b.after) all_b in
       let order : IsInByteOrder d.names = is.names.order in (
         ap (λ (t : LiveText). t.bound) same,
-        states_once d.names order a.before b.before (front Is a.before (a.current ∷ a.after) all_a)
-            (front Is b.before (b.current ∷ b.after) all_b) (ap (λ (t : LiveText). t.before) same),
+        states_once d.names order a.before b.before
+            (all_front Is a.before (a.current ∷ a.after) all_a)
+            (all_front Is b.before (b.current ∷ b.after) all_b)
+            (ap (λ (t : LiveText). t.before) same),
         state_once d.names order a.current b.current (All-head Is a.current a.after on_a)
             (All-head Is b.current b.after on_b) (ap (λ (t : LiveText). t.current) same),
         states_once d.names order a.after b.after (All-tail Is a.current a.after on_a)
             (All-tail Is b.current b.after on_b) (ap (λ (t : LiveText). t.after) same),
       )
-
-same_line : (a b : Line) → a.before ≡ b.before → a.current ≡ b.current → a.after ≡ b.after
-    → a.bound ≡ b.bound → a ≡ b
-same_line a b before current after bound =
-    λ k. record { before = before k; current = current k; after = after k; bound = bound k }
-
-some_once : (x y : ℕ) → Some x ≡ Some y → x ≡ y
-some_once x y same = cc
 
 -- the prefix law of the forms, as a premise
 abbrev pub IsFrontLaw : Type 0
@@ -239,7 +227,7 @@ module _ (d : Database) (is_d : IsDatabase d) (law : IsValueLaw) (a b : Line) (o
       | inl new_b ↦
           let parts = both (Some a.bound) (Some b.bound) of_a.is_line.bound of_b.is_line.bound
           (sym new_a ∙ new_b) in
-          same_line a b parts.1 parts.2 parts.3 (some_once a.bound b.bound parts.0)
+          same_line a b parts.1 parts.2 parts.3 (same_Some a.bound b.bound parts.0)
       | inr old_b ↦
           let parts = both (Some a.bound) None of_a.is_line.bound tt (sym new_a ∙ old_b.0) in
           absurd (let bad : Some a.bound ≡ None = parts.0 in cc)

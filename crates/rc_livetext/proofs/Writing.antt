@@ -10,19 +10,13 @@ use Rattle.std.specs.List.{flat_map}
 use Rattle.rc_model.specs.Database.{Bundles, Database}
 use Rattle.rc_model.proofs.Places.{take_next}
 use Rattle.rc_model.specs.Line.{State, Line, states, cursor}
+use Rattle.rc_model.proofs.Lists.{one_more}
 use Rattle.rc_dbtext.specs.Form.{spells}
 use Rattle.rc_livetext.specs.Text as form
 use Rattle.rc_livetext.specs.Text.{OfBundle, Last, spell, state_lines, head_lines}
 use Rattle.rc_dbtext.specs.Spelling.{bundle_text}
 use Rattle.rc_livetext.specs.Spelling.{state_text, spelling}
 use Rattle.rc_livetext.specs.Written.{bundle_bytes, state_bytes}
-
--- one more of the pieces that are joined
-pub one_more : {X : Type 0} (f : X → List ℕ) (before : List X) (x : X)
-    → flat_map f (before ++ x ∷ []) ≡ flat_map f before ++ f x
-one_more f before x =
-    flat_map-append f before (x ∷ []) ∙ ap (λ (n : List ℕ). flat_map f before ++ n)
-    (append-nil (f x))
 
 -- one bundle more
 pub bundles_push : (names : List (List ℕ)) (table : Bundles) (b : List ℕ × List Bool)
@@ -164,10 +158,3 @@ unfolding spelling
 line_written d line =
     whole_text d.names (head_lines d.names (Some line.bound)) (cursor line) line.before line.current
     line.after refl
-
--- a text that grew in its last part
-pub grown : (new old front part longer more : List ℕ) → new ≡ old ++ more → old ≡ front ++ part
-    → longer ≡ part ++ more → new ≡ front ++ longer
-grown new old front part longer more grows was is =
-    grows ∙ (ap (λ (t : List ℕ). t ++ more) was
-    ∙ (append_assoc front part more ∙ ap (λ (t : List ℕ). front ++ t) (sym is)))

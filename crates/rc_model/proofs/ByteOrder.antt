@@ -22,6 +22,22 @@ same_or_other a b = elim (cases_Bool (bytes_eq a b)) [
   | inr differ ↦ inr (λ same. true≢false (sym ((bytes_eq-Decides a b).1 same) ∙ differ))
 ]
 
+-- a name is among others or not
+pub listed_or_not : (names : List (List ℕ)) (name : List ℕ)
+    → Contains names name ⊎ (Contains names name → ⊥)
+listed_or_not [] name = inr (none_contained name)
+listed_or_not (x ∷ names) name = elim (same_or_other x name) [
+  | inl same ↦ inl (subst (Contains (x ∷ names)) same (contains_first x names))
+  | inr differs ↦ elim (listed_or_not names name) [
+    | inl later ↦ inl (contains_later x names name later)
+    | inr none ↦
+        inr (λ there. elim (contains_cases x names name there) [
+          | inl same ↦ differs same
+          | inr later ↦ none later
+        ])
+  ]
+]
+
 -- names that compare equal are one
 pub same_text : (a b : List ℕ) → slice_cmp nat_cmp a b ≡ Equal → a ≡ b
 same_text a b equal = (bytes_eq-Decides a b).0 (sym (is_eq-slice_cmp a b) ∙ ap is_eq equal)

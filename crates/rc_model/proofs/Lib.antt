@@ -2,11 +2,15 @@
 
 -- Members of lists: head by head, and by their places.
 pub mod Members
--- Names in byte order, by their places.
-pub mod BundleOrders
 -- Names in byte order: no name stands before itself, each stands at one place, and lists of the
 -- same names are one.
 pub mod ByteOrder
+-- A test passes or it fails.
+pub mod Tests
+-- A result that is an error has no value.
+pub mod Results
+-- The closures of fewer members are smaller.
+pub mod Closures
 -- A set that gains members leaves fewer out.
 pub mod Counting
 -- What events contain after one more of them.
@@ -19,6 +23,8 @@ pub mod SetLemmas
 pub mod Tables
 -- An entry leads from a state to only one state, and an edit to only one table.
 pub mod Exact
+-- Lists that are joined: what holds of their parts, and where they are cut.
+pub mod Lists
 -- Lines of states and where they are cut: the same states with the cursor elsewhere, fronts and
 -- backs.
 pub mod Lines
@@ -42,7 +48,7 @@ pub mod StrictLemmas
 pub mod Telling
 -- Byte order of names.
 pub mod Texts
--- An edit turned round.
+-- An edit turned round, and the names that it alters.
 pub mod Turning
 -- Lines stay lines when the cursor moves, when a state is put in, and at an undo or redo.
 pub mod Walking

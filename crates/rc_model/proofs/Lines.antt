@@ -5,11 +5,7 @@ use Rattle.std.proofs.Common.{slice_get, All, refl, ap, sym, subst, arith}
 use Rattle.rc_model.specs.Line.{State, Line, IsNext, AreStates, DifferInTurn, states, cursor}
 use Rattle.std.proofs.lemmas.List.Elements.{All-nil, All-cons, All-append}
 use Rattle.rc_model.specs.Database.{IsTable}
-
-pub push_append : (xs : List State) (y : State) (ys : List State)
-    → (xs ++ y ∷ []) ++ ys ≡ xs ++ y ∷ ys
-push_append [] y ys = refl
-push_append (x ∷ xs) y ys = ap (λ rest. x ∷ rest) (push_append xs y ys)
+use Rattle.rc_model.proofs.Lists.{push_append, all_front, all_back}
 
 pub length_push : (xs : List State) (y : State) → length (xs ++ y ∷ []) ≡ suc (length xs)
 length_push [] y = refl
@@ -95,17 +91,8 @@ one_line a b same place bound =
     let parts = one_cut a.before b.before a.current b.current a.after b.after place same in
     λ k. record { before = parts.0 k; current = parts.1 k; after = parts.2 k; bound = bound k }
 
-all_front : {X : Type 0} (P : X → Type 0) (xs ys : List X) → All P (xs ++ ys) → All P xs
-all_front P [] ys h = All-nil P
-all_front P (x ∷ xs) ys h =
-    All-cons P x xs (h 0 x (omega arith)) (all_front P xs ys (λ k d low. h (suc k) d (omega arith)))
-
-all_back : {X : Type 0} (P : X → Type 0) (xs ys : List X) → All P (xs ++ ys) → All P ys
-all_back P [] ys h = h
-all_back P (x ∷ xs) ys h = all_back P xs ys (λ k d low. h (suc k) d (omega arith))
-
-all_to : (P : State → Type 0) (xs : List State) (y : State) (ys : List State) → All P (xs ++ y ∷ ys)
-    → All P (xs ++ y ∷ [])
+pub all_to : (P : State → Type 0) (xs : List State) (y : State) (ys : List State)
+    → All P (xs ++ y ∷ ys) → All P (xs ++ y ∷ [])
 all_to P xs y ys h =
     all_front P (xs ++ y ∷ []) ys (subst (λ all. All P all) (sym (push_append xs y ys)) h)
 

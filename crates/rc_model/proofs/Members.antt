@@ -1,6 +1,7 @@
 -- Members of lists: head by head, and by their places.
 use Rattle.std.proofs.Common.{◌≡◌, ◌∙◌, ◌<◌, ◌⊎◌, inl, inr, ℕ, zero, suc, List, [], ◌∷◌, length}
-use Rattle.std.proofs.Common.{slice_get, slice_index_or, Some, Contains, refl, ap, arith}
+use Rattle.std.proofs.Common.{slice_get, slice_index_or, Some, Contains, refl, ap, arith, get_or}
+use Rattle.std.proofs.Common.{sym, subst}
 use Rattle.std.proofs.lemmas.Option.{slice_get-get_or, slice_get_within, get_or_from_slice_get}
 
 module _ {X : Type 0} where
@@ -17,6 +18,12 @@ module _ {X : Type 0} where
 
   pub none_contained : (y : X) → Contains [] y → ⊥
   none_contained y (k, within, here) = omega arith
+
+  -- a list of one element contains no other
+  pub only : (x y : X) → Contains (x ∷ []) y → y ≡ x
+  only x y (k, within, here) =
+      let first : k ≡ 0 = omega arith in
+      sym (subst (λ n. get_or (x ∷ []) n y ≡ y) first here)
 
   -- what a list contains stands at a place of it, and the other way round
   pub place_of : (xs : List X) (x : X) → Contains xs x → (k : ℕ) × (slice_get xs k ≡ Some x)

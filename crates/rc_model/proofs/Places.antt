@@ -7,6 +7,7 @@ use Rattle.std.proofs.lemmas.List.{same_lists, get_or-map, length-map}
 use Rattle.std.proofs.lemmas.Option.{slice_get_cases, slice_get-get_or, slice_get_within}
 use Rattle.std.proofs.lemmas.Option.{get_or_from_slice_get, unwrap_or-slice_get}
 pub use Rattle.rc_model.proofs.Members.{contains_at, place_of}
+use Rattle.rc_model.specs.Names.{IsAscending}
 
 module _ {X : Type 0} where
   -- lists with the same elements at the same places are one
@@ -37,3 +38,7 @@ module _ {X : Type 0} where
   pub all_places : (P : X → Type 0) (xs : List X)
       → ((k : ℕ) (x : X) → slice_get xs k ≡ Some x → P x) → All P xs
   all_places P xs each k d within = each k (get_or xs k d) (slice_get-get_or xs k d within)
+
+-- ascending ids after the first ascend
+pub rest_ascends : (x : ℕ) (xs : List ℕ) → IsAscending (x ∷ xs) → IsAscending xs
+rest_ascends x xs up i j d first within = up (suc i) (suc j) d (omega arith) (omega arith)

@@ -126,3 +126,9 @@ pub taken_was_planned : (c : Course) (events : List Event) (w s : ℕ) → IsRun
 taken_was_planned c events w s run has =
     let legal = legal_within c events (Take w s) run has in
     elim legal.2.3 [ inl sinks ↦ inl sinks.planned | inr rises ↦ inr rises.planned ]
+
+-- the first events of a run begin it too
+pub front_run : (c : Course) (events rest : List Event) → IsRun c (events ++ rest) → IsRun c events
+front_run c events rest run =
+    subst (λ (l : List Event). IsRun c l) (take_at events rest (length events) refl)
+    (run_prefix c (events ++ rest) (length events) run)

@@ -23,13 +23,13 @@ below k (e ∷ es) h = both (is_lt (slice_cmp nat_cmp k e.0)) (below_all (slice_
     (subst (λ o. T (is_lt o)) (sym (h 0 [] (omega arith))) tt)
     (below k es (λ j d bound. h (suc j) d (omega arith)))
 
-sorted : (es : Bundles) → IsInByteOrder (names_of es) → T (is_sorted (slice_cmp nat_cmp) es)
+pub sorted : (es : Bundles) → IsInByteOrder (names_of es) → T (is_sorted (slice_cmp nat_cmp) es)
 sorted [] h = tt
 sorted (e ∷ es) h = both (below_all (slice_cmp nat_cmp) e.0 es) (is_sorted (slice_cmp nat_cmp) es)
     (below e.0 es (λ j d bound. h 0 (suc j) d (omega arith) (omega arith)))
     (sorted es (λ i j d first bound. h (suc i) (suc j) d (omega arith) (omega arith)))
 
-find_value : (es : Bundles) (q : List ℕ) → find (slice_cmp nat_cmp) q es ≡ value_of es q
+pub find_value : (es : Bundles) (q : List ℕ) → find (slice_cmp nat_cmp) q es ≡ value_of es q
 find_value [] q = refl
 find_value (e ∷ es) q =
     ap (λ b. cond b (Some e.1) (find (slice_cmp nat_cmp) q es)) (is_eq-slice_cmp q e.0)

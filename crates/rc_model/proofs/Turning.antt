@@ -1,10 +1,11 @@
--- An edit turned round.
-use Rattle.std.proofs.Common.{◌≡◌, ℕ, zero, suc, ◌<◌, List, [], ◌∷◌, length, slice_index_or}
-use Rattle.std.proofs.Common.{Contains, refl, ap, sym, subst, arith}
+-- An edit turned round, and the names that it alters.
+use Rattle.std.proofs.Common.{◌≡◌, ℕ, zero, suc, ◌<◌, List, [], ◌∷◌, length, slice_index_or, inl}
+use Rattle.std.proofs.Common.{Contains, refl, ap, sym, subst, arith, inr}
 use Rattle.rc_model.specs.Names.{IsInByteOrder}
 use Rattle.rc_model.specs.Database.{Bundles}
 use Rattle.rc_model.specs.Line.{Alteration, IsAlteration, IsEdit, names_altered, alteration_back}
 use Rattle.rc_model.specs.Line.{edit_back}
+use Rattle.rc_model.proofs.Members.{contains_first, contains_later, contains_cases, none_contained}
 
 altered_back : (edit : List Alteration) → names_altered (edit_back edit) ≡ names_altered edit
 altered_back [] = refl
@@ -46,3 +47,13 @@ turns_round old new edit h = record {
         ((h.same (alteration_back a)).1 (turned_alters new old a alters)),
   );
 }
+
+-- a name that an edit alters is that of one of its alterations
+pub named_in : (edit : List Alteration) (name : List ℕ) → Contains (names_altered edit) name
+    → (a : Alteration) × Contains edit a × (a.name ≡ name)
+named_in [] name there = absurd (none_contained name there)
+named_in (a ∷ edit) name there = elim (contains_cases a.name (names_altered edit) name there) [
+  | inl same ↦ (a, contains_first a edit, same)
+  | inr later ↦
+      let more = named_in edit name later in (more.0, contains_later a edit more.0 more.1, more.2)
+]

@@ -7,9 +7,10 @@ use Rattle.rc_model.specs.Line.{State, Line, IsNext, IsLine, AreStates, states, 
 use Rattle.rc_model.specs.Line.{within_bound, MovesTo, MovesByUndo, MovesByRedo, put_between}
 use Rattle.rc_model.specs.Line.{put_last, with_live}
 use Rattle.rc_model.proofs.Fitting.{fitted_is_line, fitted_current}
-use Rattle.rc_model.proofs.Lines.{push_append, take_front, drop_front, next_states, next_cursor}
+use Rattle.rc_model.proofs.Lines.{take_front, drop_front, next_states, next_cursor}
 use Rattle.rc_model.proofs.Lines.{states_front, states_back, states_join, states_one, states_more}
 use Rattle.rc_model.proofs.Lines.{states_first}
+use Rattle.rc_model.proofs.Lists.{push_append}
 
 -- a line is one whether the cursor is on one state or on the next
 held_next : (line next : Line) → IsNext line next

@@ -1,12 +1,10 @@
 -- What adding a name answers at each of its exits.
-use Rattle.std.proofs.Common.{◌≡◌, ℕ, ◌+◌, ⊎_elim, inl, Bool, true, false, List, map, Option, Some}
+use Rattle.std.proofs.Common.{◌≡◌, ℕ, ◌+◌, Bool, true, false, List, map, Option, Some}
 use Rattle.std.proofs.Common.{None, Result, Ok, Err, is_some, slice_get, Contains, IfSome, IfNone}
-use Rattle.std.proofs.Common.{IfOk, OnOk, OnErr, IsErr, arith, sym, ap, subst, ◌∙◌, true≢false}
-use Rattle.std.proofs.lemmas.Bool.{false≢true}
+use Rattle.std.proofs.Common.{OnErr, arith, sym, ap, subst, ◌∙◌, true≢false}
 use Rattle.std.specs.Map.{keys_of, values_of}
 use Rattle.rc_model.specs.Names.{AreNames}
 use Rattle.rc_model.proofs.Members.{contains_at}
-use Rattle.rc_names.specs.Names.{Adds}
 
 -- a text that was found is among the names
 pub is_there : (names : List (List ℕ)) (name text : List ℕ) (place : Option ℕ) (found : Bool)
@@ -25,25 +23,8 @@ is_absent names name text None found missing same is so there =
 is_absent names name text (Some id) found missing same is so there =
     absurd (true≢false (sym is ∙ so))
 
--- names to which one is added that is there stay the same
-pub adds_none : (old : List (List ℕ)) (name : List ℕ) → Contains old name → Adds old name old
-adds_none old name there text = (
-  λ has. inl has,
-  λ cases. ⊎_elim (λ has. has) (λ is. subst
-      (Contains old) (sym is) there) cases,
-)
-
 pub as_long : (n : ℕ) → n ≡ n + 0
 as_long n = omega arith
-
--- a refusal has no value
-pub no_value : {T E : Type 0} (r : Result T E) (P : T → Type 0) → IsErr r → IfOk r P
-no_value (Ok x) P fails = absurd (false≢true fails)
-no_value (Err e) P fails = tt
-
-pub no_success : {T E : Type 0} (r : Result T E) (P : Type 0) → IsErr r → OnOk r P
-no_success (Ok x) P fails = absurd (false≢true fails)
-no_success (Err e) P fails = tt
 
 -- what holds whatever is answered
 pub on_refusal : {T E P : Type 0} (r : Result T E) → P → OnErr r P

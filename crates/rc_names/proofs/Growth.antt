@@ -1,6 +1,6 @@
 -- What a list of names is once a name went in at the place where it is missing.
 use Rattle.std.proofs.Common.{◌≡◌, ℕ, ◌+◌, ◌-◌, ◌<◌, ⊎_elim, inl, inr, List, ◌∷◌, length, get_or}
-use Rattle.std.proofs.Common.{insert, Contains, All, arith, subst}
+use Rattle.std.proofs.Common.{insert, Contains, All, arith, sym, subst}
 use Rattle.std.proofs.lemmas.Bool.{cases_lt}
 use Rattle.std.proofs.lemmas.List.Edits.{length-insert, get_or-insert_below, get_or-insert_at}
 use Rattle.std.proofs.lemmas.List.Edits.{get_or-insert_above}
@@ -8,7 +8,7 @@ use Rattle.std.proofs.lemmas.List.Elements.{All-cons}
 use Rattle.std.proofs.lemmas.List.Sorted.{IsPermutation-insert, All-permutation}
 use Rattle.rc_model.proofs.ByteOrder.{not_before_itself}
 use Rattle.rc_model.specs.Names.{IsName, IsBefore, IsInByteOrder}
-use Rattle.rc_names.specs.Names.{IsGap}
+use Rattle.rc_names.specs.Names.{IsGap, Adds}
 
 module _ (texts : List (List ℕ)) (text : List ℕ) (place : ℕ) (gap : IsGap texts text place) where
   -- a text with a gap is none of the names
@@ -59,3 +59,11 @@ module _ (texts : List (List ℕ)) (text : List ℕ) (place : ℕ) (gap : IsGap 
   pub each_grown : All IsName texts → IsName text → All IsName (insert texts place text)
   each_grown each good = All-permutation IsName (text ∷ texts) (insert texts place text)
       (IsPermutation-insert texts place text) (All-cons IsName text texts good each)
+
+-- names to which one is added that is there stay the same
+pub adds_none : (old : List (List ℕ)) (name : List ℕ) → Contains old name → Adds old name old
+adds_none old name there text = (
+  λ has. inl has,
+  λ cases. ⊎_elim (λ has. has) (λ is. subst
+      (Contains old) (sym is) there) cases,
+)

@@ -1,10 +1,10 @@
 -- What a table shows once `insert_sorted` put a new name in.
-use Rattle.std.proofs.Common.{◌≡◌, ℕ, ◌+◌, ◌<◌, ◌≤◌, ◌⊎◌, ◌↔◌, ⊎_elim, inl, inr, Bool, true, false}
-use Rattle.std.proofs.Common.{List, [], ◌∷◌, ◌++◌, length, get_or, take, drop, map, insert}
+use Rattle.std.proofs.Common.{◌≡◌, ℕ, ◌+◌, ◌<◌, ◌≤◌, ◌⊎◌, ◌↔◌, ⊎_elim, inl, inr, Bool, false}
+use Rattle.std.proofs.Common.{List, [], ◌∷◌, length, get_or, map, insert}
 use Rattle.std.proofs.Common.{Contains, All, arith, refl, sym, ap, subst, ◌∙◌, true≢false}
 use Rattle.std.proofs.lemmas.Bool.{cases_lt, le-ltb, false_from_ne_true}
 use Rattle.std.proofs.lemmas.Cmp.{nat_list_cmp_total}
-use Rattle.std.proofs.lemmas.List.{get_or-map, length-map, map-append, take-map, drop-map}
+use Rattle.std.proofs.lemmas.List.{get_or-map, length-map}
 use Rattle.std.proofs.lemmas.List.Edits.{length-insert}
 use Rattle.std.proofs.lemmas.List.Elements.{All-cons, Contains-append_cases, Contains-append_right}
 use Rattle.std.proofs.lemmas.List.Elements.{Contains-get_or}
@@ -14,33 +14,23 @@ use Rattle.std.proofs.lemmas.List.Sums.{passes_at_first, prefix_len-le-length}
 use Rattle.std.proofs.lemmas.Map.Keys.{apart_from_distinct}
 use Rattle.std.proofs.lemmas.Option.{slice_get_cases}
 use Rattle.std.proofs.lemmas.Slice.Eq.{bytes_eq-Decides}
-use Rattle.std.specs.Cmp.Lexicographic.{slice_cmp, texts_ties}
+use Rattle.std.specs.Cmp.Lexicographic.{slice_cmp}
 use Rattle.std.specs.List.{position_or_len, IsDistinct}
 use Rattle.std.specs.List.Sorted.{IsSorted}
 use Rattle.std.specs.Map.{keys_of, values_of}
-use Rattle.std.specs.Ordering.{nat_cmp, is_lt, is_eq, ordering_reverse}
+use Rattle.std.specs.Ordering.{nat_cmp, is_lt, ordering_reverse}
 use Rattle.std.specs.Str.{bytes_eq}
-use Rattle.std.specs.declared.cmp.Ordering.{Ordering}
-use Rattle.std.specs.declared.cmp.Ordering.TheVariants.{Less, Equal, Greater}
+use Rattle.std.specs.declared.cmp.Ordering.TheVariants.{Less}
 use Rattle.indexmap.proofs.MoveLemmas.{push_moved}
 use Rattle.indexmap.proofs.SortedLemmas.{absent_pushes}
 use Rattle.indexmap.specs.IndexMap.{move_index, insert_entry, index_before}
-use Rattle.rc_model.specs.Names.{IsName, IsBefore, IsInByteOrder, AreNames}
+use Rattle.rc_model.specs.Names.{IsName, IsInByteOrder, AreNames}
+use Rattle.rc_model.proofs.Members.{only}
+use Rattle.rc_model.proofs.Mapped.{map-insert}
+use Rattle.rc_model.proofs.Texts.{before_from}
 use Rattle.rc_names.specs.Names.{Adds}
 
 module _ {X : Type 0} where
-  -- the image of a list with one element more
-  pub map-insert : {Y : Type 0} (f : X → Y) (xs : List X) (i : ℕ) (x : X)
-      → map f (insert xs i x) ≡ insert (map f xs) i (f x)
-  map-insert f xs i x =
-      map-append f (take i xs) (x ∷ drop i xs)
-      ∙ (λ n. sym (take-map f i xs) n ++ f x ∷ sym (drop-map f i xs) n)
-
-  only : (x y : X) → Contains (x ∷ []) y → y ≡ x
-  only x y (k, within, here) =
-      let first : k ≡ 0 = omega arith in
-      sym (subst (λ n. get_or (x ∷ []) n y ≡ y) first here)
-
   -- an insert adds one element
   Contains-insert : (xs : List X) (i : ℕ) (x y : X)
       → Contains (insert xs i x) y ↔ (Contains xs y ⊎ (y ≡ x))
@@ -77,19 +67,6 @@ module _ {K V : Type 0} (same : K → K → Bool) (es : List (K × V)) (key : K)
       let pushed = absent_pushes same key value es none in
       let moved = push_moved es (key, value) i (omega arith) in
       (omega arith, rw (pushed, at_end, goes) moved)
-
--- a text that is neither after nor equal to another is before it
-pub before_from : (a b : List ℕ) → is_lt (slice_cmp nat_cmp b a) ≡ false → bytes_eq a b ≡ false
-    → IsBefore a b
-before_from a b not_after differ = by (slice_cmp nat_cmp a b) refl
-  where
-    by : (o : Ordering) → slice_cmp nat_cmp a b ≡ o → o ≡ Less
-    by Less e = refl
-    by Equal e = absurd (true≢false (sym (texts_ties a b ∙ ap is_eq e) ∙ differ))
-    by Greater e =
-        let after : is_lt (slice_cmp nat_cmp b a) ≡ true =
-        ap is_lt (nat_list_cmp_total.antisymm b a ∙ ap ordering_reverse e) in
-        absurd (true≢false (sym after ∙ not_after))
 
 module _ {K : Type 0} (bytes : K → List ℕ) where
   -- keys whose texts are in byte order are sorted by their bytes

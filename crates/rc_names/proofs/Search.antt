@@ -12,11 +12,8 @@ use Rattle.std.specs.Ordering.{nat_cmp, is_lt, ordering_reverse}
 use Rattle.std.specs.declared.cmp.Ordering.TheVariants.{Equal, Greater}
 use Rattle.rc_model.proofs.ByteOrder.{same_text}
 use Rattle.rc_model.specs.Names.{IsBefore, IsInByteOrder}
+use Rattle.rc_model.proofs.Texts.{before_from_after}
 use Rattle.rc_names.specs.Names.{IsGap}
-
--- a text that compares greater has the other before it
-turned : (a b : List ℕ) → slice_cmp nat_cmp a b ≡ Greater → IsBefore b a
-turned a b greater = nat_list_cmp_total.antisymm b a ∙ ap ordering_reverse greater
 
 module _ {X : Type 0} (bytes : X → List ℕ) (xs : List X) (texts : List (List ℕ))
     (seen : map bytes xs ≡ texts) where
@@ -85,7 +82,8 @@ module _ {X : Type 0} (bytes : X → List ℕ) (xs : List X) (texts : List (List
             after = λ k d low inside.
                 let here : k < length xs = omega (arith, as_long) in
                 let at = shown_at k here in
-                rw (at.1.reads d) (turned (bytes at.0) text (subst (λ x. slice_cmp nat_cmp
+                rw (at.1.reads d)
+                (before_from_after (bytes at.0) text (subst (λ x. slice_cmp nat_cmp
                 (bytes x) text ≡ Greater) (at.1.stands at.0) (met.1 k at.0 low here)));
           },
         )

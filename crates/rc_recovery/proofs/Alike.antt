@@ -1,111 +1,24 @@
 -- Two runs of a command after which the same is live lead to one line.
-use Rattle.std.proofs.Common.{◌≡◌, ◌∙◌, ◌⊎◌, ◌↔◌, inl, inr, ℕ, Bool, List, [], ◌∷◌, ◌++◌, Option}
-use Rattle.std.proofs.Common.{ap, sym, subst}
+use Rattle.std.proofs.Common.{◌≡◌, ◌∙◌, ◌↔◌, inl, inr, ℕ, Bool, List, [], ◌∷◌, ◌++◌, Option}
+use Rattle.std.proofs.Common.{sym, subst}
 use Rattle.rc_model.specs.Names.{Has}
 use Rattle.rc_model.specs.declared.Event.{Event}
 use Rattle.rc_model.specs.Database.{Database}
 use Rattle.rc_model.specs.Headline.{HasRun}
-use Rattle.rc_model.specs.Line.{Line, MovesTo, State, put_between, with_live, within_bound}
+use Rattle.rc_model.specs.Line.{Line}
 use Rattle.rc_model.specs.Plan.{IsPlanTo, KeptOfAsk, PlanSets, TargetOfAsk}
 use Rattle.rc_model.specs.Run.{Course, IsLive, course_of}
 use Rattle.rc_model.specs.Session.{Change, Command, Does, DoesByRun, EndsWith, MovesBy, Nothing}
 use Rattle.rc_model.specs.Session.{Redo, Reported, Undo, Add, Delete, events_of}
 use Rattle.rc_session.specs.Commands.{with_events}
-use Rattle.rc_session.proofs.Excluding.{one_set}
+use Rattle.rc_session.proofs.Excluding.{one_set, one_plan}
 use Rattle.rc_session.proofs.Neighbours.{one_back, one_on}
+use Rattle.rc_session.proofs.Determined.{one_move}
 use Rattle.rc_script.specs.RunLines.{least_limited}
 use Rattle.rc_recovery.specs.Ends.{last_stop, with_ends}
 use Rattle.rc_recovery.specs.Reordered.{without_stops}
 use Rattle.rc_recovery.specs.Recoveries.{IsLineAfter}
 use Rattle.rc_recovery.proofs.Reading.{events_are}
-
--- there is one plan from a set to a target
-one_plan : (up : List Bool) (To Kept : ℕ → Type 0) (p q : PlanSets) → IsPlanTo up To Kept p
-    → IsPlanTo up To Kept q → p ≡ q
-one_plan up To Kept p q hp hq =
-    let lower : p.lower ≡ q.lower =
-    one_set (λ s. Has up s × (To s → ⊥)) p.lower q.lower (hp.lower_bound ∙ sym hq.lower_bound)
-    hp.lower hq.lower
-    in
-    let raise : p.raise ≡ q.raise =
-    one_set (λ s. To s × (Has up s → ⊥)) p.raise q.raise (hp.raise_bound ∙ sym hq.raise_bound)
-    hp.raise hq.raise
-    in
-    let kept : p.kept ≡ q.kept =
-    one_set Kept p.kept q.kept (hp.kept_bound ∙ sym hq.kept_bound) hp.kept hq.kept
-    in
-    ap (λ (x : List Bool). record { opening = x; lower = p.lower; raise = p.raise; kept = p.kept })
-    (hp.opening ∙ sym hq.opening)
-    ∙ ap (λ (x : List Bool). record {
-      opening = q.opening;
-      lower = x;
-      raise = p.raise;
-      kept =
-          p.kept;
-    })
-    lower
-    ∙ ap (λ (x : List Bool). record {
-      opening = q.opening;
-      lower = q.lower;
-      raise = x;
-      kept =
-          p.kept;
-    })
-    raise
-    ∙ ap (λ (x : List Bool). record {
-      opening = q.opening;
-      lower = q.lower;
-      raise =
-          q.raise;
-      kept = x;
-    })
-    kept
-
--- what ends in a state leads to one line
-one_move_to : (line : Line) (end : State) (a b : Line) → MovesTo line end a → MovesTo line end b
-    → a ≡ b
-one_move_to line end a b (inl x) (inl y) = x.1 ∙ sym y.1
-one_move_to line end a b (inl x) (inr y) = absurd (y.0 x.0)
-one_move_to line end a b (inr x) (inl y) = absurd (x.0 y.0)
-one_move_to line end a b (inr x) (inr y) = x.1 ∙ sym y.1
-
-abbrev ByTwo : Type 0 → Type 0 → (x y z new : Line) → Type 0
-ByTwo P Q x y z new =
-    (P × (new ≡ x)) ⊎ ((P → ⊥) × Q × (new ≡ y)) ⊎ ((P → ⊥) × (Q → ⊥) × (new ≡ z))
-
-one_by_two : (P Q : Type 0) (x y z a b : Line) → ByTwo P Q x y z a → ByTwo P Q x y z b → a ≡ b
-one_by_two P Q x y z a b (inl p) (inl q) = p.1 ∙ sym q.1
-one_by_two P Q x y z a b (inl p) (inr (inl q)) = absurd (q.0 p.0)
-one_by_two P Q x y z a b (inl p) (inr (inr q)) = absurd (q.0 p.0)
-one_by_two P Q x y z a b (inr (inl p)) (inl q) = absurd (p.0 q.0)
-one_by_two P Q x y z a b (inr (inl p)) (inr (inl q)) = p.2 ∙ sym q.2
-one_by_two P Q x y z a b (inr (inl p)) (inr (inr q)) = absurd (q.1 p.1)
-one_by_two P Q x y z a b (inr (inr p)) (inl q) = absurd (p.0 q.0)
-one_by_two P Q x y z a b (inr (inr p)) (inr (inl q)) = absurd (p.1 q.1)
-one_by_two P Q x y z a b (inr (inr p)) (inr (inr q)) = p.2 ∙ sym q.2
-
-one_move : (line : Line) (command : Command) (live : List Bool) (a b : Line)
-    → MovesBy line command live a → MovesBy line command live b → a ≡ b
-one_move line (Change ask events) live a b ma mb =
-    one_move_to line (with_live line live) a b ma mb
-one_move line (Undo limit events) live a b ma mb =
-    let same = one_back ma.0 mb.0 line ma.1 mb.1 in
-    let between : Line → Line = λ x. within_bound (put_between x (with_live line live) line) in
-    let By : Line → Type 0 = λ x.
-    ByTwo (live ≡ x.current.live) (live ≡ line.current.live) x line (between x) a
-    in
-    one_by_two (live ≡ mb.0.current.live) (live ≡ line.current.live) mb.0 line (between mb.0) a b
-    (subst By same ma.2) mb.2
-one_move line (Redo limit events) live a b ma mb =
-    let same = one_on line ma.0 mb.0 ma.1 mb.1 in
-    let between : Line → Line = λ x. within_bound (put_between line (with_live line live) x) in
-    let By : Line → Type 0 = λ x.
-    ByTwo (live ≡ x.current.live) (live ≡ line.current.live) x line (between x) a
-    in
-    one_by_two (live ≡ mb.0.current.live) (live ≡ line.current.live) mb.0 line (between mb.0) a b
-    (subst By same ma.2) mb.2
-one_move line (Add name contents force) live a b ma mb = absurd ma
-one_move line (Delete words force) live a b ma mb = absurd ma
 
 -- the same services are live after these events as after those
 abbrev pub SameLive : List Event → List Event → Type 0

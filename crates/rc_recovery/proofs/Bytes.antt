@@ -2,8 +2,7 @@
 use Rattle.std.proofs.Common.{◌≡◌, ◌≢◌, ◌∙◌, ◌⊎◌, inl, inr, ℕ, suc, Contains, List, [], ◌∷◌, ◌++◌}
 use Rattle.std.proofs.Common.{refl, ap, sym, subst, append_assoc, arith}
 use Rattle.std.specs.List.{AllByRecursion, concat}
-use Rattle.std.proofs.lemmas.Bool.{cases_eq}
-use Rattle.std.proofs.lemmas.List.{append-nil}
+use Rattle.std.proofs.lemmas.List.{append-nil, append_cancel_left}
 use Rattle.rc_recovery.specs.RunLog.{EndsWhole}
 use Rattle.rc_recovery.specs.Files.{IsFront}
 
@@ -15,26 +14,9 @@ abbrev tail : List ℕ → List ℕ
 tail [] = []
 tail (x ∷ xs) = xs
 
-pub cancel : (text a b : List ℕ) → text ++ a ≡ text ++ b → a ≡ b
-cancel [] a b e = e
-cancel (x ∷ xs) a b e = cancel xs a b (ap tail e)
-
 pub nothing : (a r : List ℕ) → a ++ r ≡ [] → (a ≡ []) × (r ≡ [])
 nothing [] r e = (refl, e)
 nothing (x ∷ a) r e = absurd (let bad : x ∷ (a ++ r) ≡ [] = e in cc)
-
--- two texts are one or not
-pub one_or_other : (a b : List ℕ) → (a ≡ b) ⊎ (a ≢ b)
-one_or_other [] [] = inl refl
-one_or_other [] (y ∷ b) = inr (λ e. let bad : [] ≡ y ∷ b = e in cc)
-one_or_other (x ∷ a) [] = inr (λ e. let bad : x ∷ a ≡ [] = e in cc)
-one_or_other (x ∷ a) (y ∷ b) = elim (cases_eq x y) [
-  | inl same ↦ elim (one_or_other a b) [
-    | inl rest ↦ inl (ap (λ (z : ℕ). z ∷ a) same ∙ ap (λ (l : List ℕ). y ∷ l) rest)
-    | inr rest ↦ inr (λ e. rest (ap tail e))
-  ]
-  | inr other ↦ inr (λ e. other (ap head e))
-]
 
 -- of two fronts of a list one is the front of the other
 abbrev pub OneLonger : List ℕ → List ℕ → Type 0
@@ -82,7 +64,8 @@ whole_is_all a r b is (inr ended) bare = last_newline a r ended.0 (is ∙ ended.
 longer_whole : (a p b q r : List ℕ) → a ++ p ≡ b ++ q → EndsWhole b → Bare p → a ++ r ≡ b → a ≡ b
 longer_whole a p b q r same whole bare is =
     let rest : p ≡ r ++ q =
-    cancel a p (r ++ q) (same ∙ ap (λ (l : List ℕ). l ++ q) (sym is) ∙ append_assoc a r q)
+    append_cancel_left a p (r ++ q)
+    (same ∙ ap (λ (l : List ℕ). l ++ q) (sym is) ∙ append_assoc a r q)
     in
     let none : r ≡ [] = whole_is_all a r b is whole (bare_front r q (subst Bare rest bare)) in
     sym (append-nil a) ∙ ap (λ (l : List ℕ). a ++ l) (sym none) ∙ is

@@ -2,12 +2,13 @@
 use Rattle.std.proofs.Common.{◌≡◌, ◌≢◌, ◌∙◌, ◌⊎◌, inl, inr, ℕ, List, [], ◌∷◌, ◌++◌, map, refl, ap}
 use Rattle.std.proofs.Common.{sym, subst, append_assoc}
 use Rattle.std.specs.List.{AllZip, concat}
-use Rattle.std.proofs.lemmas.List.{append-nil}
+use Rattle.std.proofs.lemmas.List.{append-nil, append_cancel_left}
 use Rattle.std.proofs.lemmas.List.Elements.{All-from_recursion, recursion_from_All}
 use Rattle.rc_model.specs.declared.Event.{Event}
 use Rattle.rc_model.specs.Database.{Database}
 use Rattle.rc_model.specs.Line.{Line}
 use Rattle.rc_model.specs.Session.{IsLineOf}
+use Rattle.rc_model.proofs.ByteOrder.{same_or_other}
 use Rattle.rc_livetext.specs.Spelling.{spelling}
 use Rattle.rc_script.specs.RunLines.{IsEventLine}
 use Rattle.rc_recovery.specs.RunLog.{IsUnfit}
@@ -15,8 +16,8 @@ use Rattle.rc_recovery.specs.Files.{AfterCrash, Append, Empty, Files, IsFront, R
 use Rattle.rc_recovery.specs.Logging.{HoldEvents, IsLogged, Logged, log_of}
 use Rattle.rc_recovery.specs.Recoveries.{AreCutRecoveries, EndsIn, EndsInOneLine, EndsOn, IsAtRest}
 use Rattle.rc_recovery.specs.Recoveries.{IsCrash}
-use Rattle.rc_recovery.proofs.Bytes.{Bare, bare_front, bare_line, cancel, concat_more, nothing}
-use Rattle.rc_recovery.proofs.Bytes.{one_longer, one_or_other, torn_line}
+use Rattle.rc_recovery.proofs.Bytes.{Bare, bare_front, bare_line, concat_more, nothing}
+use Rattle.rc_recovery.proofs.Bytes.{one_longer, torn_line}
 use Rattle.rc_recovery.proofs.Held.{kept_ends, kept_fits, none_rests, one_end_text, other_rests}
 use Rattle.rc_recovery.proofs.Known.{Laws}
 use Rattle.rc_recovery.proofs.Resting.{all_still, bare_rests, empty_rests, ends_still, files}
@@ -79,7 +80,7 @@ module _ (laws : Laws) (d : Database) (line new : Line) (l : Logged) (f : Files)
   -- the file is replaced
   replaced : (lines : List (List ℕ)) (g : Files) → AllZip (IsEventLine d.names) l.events lines
       → g ≡ files (spelling d new) (the_log lines ++ l.part) → IsLeft g
-  replaced lines g are at = elim (one_or_other (spelling d new) (spelling d line)) [
+  replaced lines g are at = elim (same_or_other (spelling d new) (spelling d line)) [
     | inl same ↦ holds l.events [] lines l.part g (sym (append-nil l.events)) are bare_part
         (at ∙ ap (λ (t : List ℕ). files t (the_log lines ++ l.part)) same)
     | inr differ ↦ inl (
@@ -161,7 +162,7 @@ module _ (laws : Laws) (d : Database) (line new : Line) (l : Logged) (f : Files)
       → IsAtRest d g
   begun_rests g q bare at = subst (IsAtRest d) (sym at)
       (bare_rests laws.scripts d (spelling d line) (spelling d line ++ q)
-      (λ rest is. subst Bare (cancel (spelling d line) q rest is) bare))
+      (λ rest is. subst Bare (append_cancel_left (spelling d line) q rest is) bare))
 
   short_rests : (g : Files) (part q : List ℕ) → part ++ q ≡ spelling d line
       → g ≡ files (spelling d line) part → IsAtRest d g
@@ -169,7 +170,7 @@ module _ (laws : Laws) (d : Database) (line new : Line) (l : Logged) (f : Files)
       (bare_rests laws.scripts d (spelling d line) part (λ rest same.
       let text : List ℕ = spelling d line in
       let none : rest ++ q ≡ [] =
-      cancel text (rest ++ q) [] (sym (append_assoc text rest q)
+      append_cancel_left text (rest ++ q) [] (sym (append_assoc text rest q)
       ∙ ap (λ (x : List ℕ). x ++ q) (sym same) ∙ is ∙ sym (append-nil text))
       in
       subst Bare (sym (nothing rest q none).0) tt))
@@ -195,7 +196,8 @@ module _ (laws : Laws) (d : Database) (line new : Line) (l : Logged) (f : Files)
       elim (one_longer text part l.step is.0 is.1) [
         | inl (q, same) ↦
             let all : l.step ≡ q ++ is.0 =
-            cancel text l.step (q ++ is.0) (is.1 ∙ ap (λ (x : List ℕ). x ++ is.0) (sym same)
+            append_cancel_left text l.step (q ++ is.0)
+            (is.1 ∙ ap (λ (x : List ℕ). x ++ is.0) (sym same)
             ∙ append_assoc text q is.0)
             in
             let there : g ≡ files text (text ++ q) = at ∙ ap (files text) (sym same) in

@@ -1,7 +1,6 @@
 -- Events that begin a run of a command begin one of it under the least limit.
 use Rattle.std.proofs.Common.{◌≡◌, ◌≤◌, inl, inr, ℕ, Bool, List, [], ◌∷◌, ◌++◌, Option, Some, None}
-use Rattle.std.proofs.Common.{length, slice_get, take, Contains, arith, refl, sym, subst}
-use Rattle.std.proofs.lemmas.List.{take_at}
+use Rattle.std.proofs.Common.{slice_get, take, Contains, arith, refl, sym, subst}
 use Rattle.std.proofs.lemmas.List.Elements.{Contains-append_left}
 use Rattle.rc_model.specs.Names.{Has}
 use Rattle.rc_model.specs.declared.Event.{Event}
@@ -13,19 +12,13 @@ use Rattle.rc_model.specs.Run.{CanMove, Course, IsLegal, IsRun, IsStopped, cours
 use Rattle.rc_model.specs.Session.{Command, Change, Undo, Redo, Add, Delete, IsWay, Nothing}
 use Rattle.rc_model.specs.Session.{deadline_of}
 use Rattle.rc_model.proofs.Exact.{equal_or_not}
-use Rattle.rc_model.proofs.RunLemmas.{run_prefix}
+use Rattle.rc_model.proofs.RunLemmas.{front_run}
 use Rattle.rc_session.specs.Commands.{with_events}
 use Rattle.rc_session.proofs.Excluding.{found, one_task}
 use Rattle.rc_session.proofs.Neighbours.{one_back, one_on}
 use Rattle.rc_script.specs.RunLines.{least_limited}
 use Rattle.rc_recovery.specs.Recovering.{IsCutShort}
 use Rattle.rc_recovery.specs.Logging.{BeginsRun}
-
--- the first events of a run begin it too
-front_run : (c : Course) (events rest : List Event) → IsRun c (events ++ rest) → IsRun c events
-front_run c events rest run =
-    subst (λ (l : List Event). IsRun c l) (take_at events rest (length events) refl)
-    (run_prefix c (events ++ rest) (length events) run)
 
 front_stopped : (all events rest : List Event) → all ≡ events ++ rest → IsStopped events
     → IsStopped all

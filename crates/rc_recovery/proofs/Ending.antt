@@ -1,9 +1,10 @@
 -- A logged run that was cut short, with an end added for each transition that has none, is settled.
 use Rattle.std.proofs.Common.{◌≡◌, ◌∙◌, ◌⊎◌, ◌↔◌, ◌≤◌, inl, inr, ℕ, List, [], ◌∷◌, ◌++◌, Bool, true}
-use Rattle.std.proofs.Common.{false, cond, ◌==◌, ◌&&◌, All, Contains, slice_index_or, Some, refl}
+use Rattle.std.proofs.Common.{false, cond, ◌==◌, All, Contains, slice_index_or, Some, refl}
 use Rattle.std.proofs.Common.{ap, sym, subst, arith, append_assoc}
 use Rattle.std.specs.List.{fold, list_any}
 use Rattle.std.proofs.lemmas.Bool.{cases_Bool, cond-true, cond-false, eqb-true, eq-eqb, false≢true}
+use Rattle.std.proofs.lemmas.Bool.{and_parts, and_from}
 use Rattle.std.proofs.lemmas.List.Elements.{All-push, Contains-append_left, Contains-append_right}
 use Rattle.std.proofs.lemmas.List.Elements.{Contains-append_cases, Contains-push}
 use Rattle.std.proofs.lemmas.List.Elements.{Contains-push_cases}
@@ -21,18 +22,11 @@ use Rattle.rc_model.proofs.EventLemmas.{take_then_done, take_then_stop}
 use Rattle.rc_model.proofs.StandingLemmas.{standing_push, standing_stop}
 use Rattle.rc_recovery.specs.Ends.{ends, with_end, with_ends, last_stop, IsEndOf}
 
-both : (a b : Bool) → (a && b) ≡ true → (a ≡ true) × (b ≡ true)
-both true b e = (refl, e)
-both false b e = absurd (false≢true e)
-
-both_true : (a b : Bool) → a ≡ true → b ≡ true → (a && b) ≡ true
-both_true a b x y = ap (λ t. t && b) x ∙ y
-
 -- an event that ends a transition is its end
 ends_what : (w s : ℕ) (x : Event) → ends w s x ≡ true → (o : Outcome) × (x ≡ Done w s o)
 ends_what w s (Take v t) e = absurd (false≢true e)
 ends_what w s (Done v t o) e =
-    let parts = both (v == w) (t == s) e in (
+    let parts = and_parts (v == w) (t == s) e in (
       o,
       ap (λ (x : ℕ). Done x t o) (eqb-true v w parts.0)
           ∙ ap (λ (y : ℕ). Done w y o) (eqb-true t s parts.1),
@@ -40,7 +34,7 @@ ends_what w s (Done v t o) e =
 ends_what w s (Stop v m) e = absurd (false≢true e)
 
 ends_self : (w s : ℕ) (o : Outcome) → ends w s (Done w s o) ≡ true
-ends_self w s o = both_true (w == w) (s == s) (eq-eqb w w refl) (eq-eqb s s refl)
+ends_self w s o = and_from (w == w) (s == s) (eq-eqb w w refl) (eq-eqb s s refl)
 
 any_true : (w s : ℕ) (events : List Event) → list_any (ends w s) events ≡ true
     → (o : Outcome) × Contains events (Done w s o)

@@ -1,10 +1,9 @@
 -- What a session makes of a command that was cut short.
-use Rattle.std.proofs.Common.{◌≡◌, ◌≢◌, ◌∙◌, inl, inr, ℕ, false, List, [], ◌∷◌, ◌++◌, Option}
-use Rattle.std.proofs.Common.{Result, Ok, Err, refl, ap, sym, subst}
-use Rattle.std.proofs.lemmas.Bool.{false≢true}
+use Rattle.std.proofs.Common.{◌≡◌, ◌≢◌, inl, inr, ℕ, List, [], ◌∷◌, ◌++◌, Option}
+use Rattle.std.proofs.Common.{Result, Ok, Err, refl, ap, subst}
 use Rattle.rc_model.specs.declared.Event.{Event}
 use Rattle.rc_model.specs.declared.Refusal.{Refusal}
-use Rattle.rc_model.specs.declared.Refusal.TheVariants.{BadEvent, Memory, NotSettled, Strange}
+use Rattle.rc_model.specs.declared.Refusal.TheVariants.{BadEvent, Memory, NotSettled}
 use Rattle.rc_model.specs.Database.{Database}
 use Rattle.rc_model.specs.Headline.{HasRun}
 use Rattle.rc_model.specs.Line.{Line}
@@ -14,8 +13,9 @@ use Rattle.rc_model.specs.Session.{Command, Change, Undo, Redo, Add, Delete, Doe
 use Rattle.rc_model.specs.Session.{IsLineOf, IsOwnFault, IsRunFault, IsTask, Refuses, Reported}
 use Rattle.rc_model.specs.Session.{deadline_of, events_of}
 use Rattle.rc_session.specs.Commands.{with_events}
-use Rattle.rc_session.specs.Holding.{Holding, IsHindrance, Obeys}
+use Rattle.rc_session.specs.Holding.{Holding, Obeys}
 use Rattle.rc_session.proofs.Excluding.{task_not_own}
+use Rattle.rc_session.proofs.Obeying.{own_of}
 use Rattle.rc_script.specs.RunLines.{least_limited}
 use Rattle.rc_recovery.specs.Ends.{last_stop, with_ends}
 use Rattle.rc_recovery.specs.Recovering.{Enters, IsCutShort, IsUnsettled, Recovers, called_off}
@@ -44,13 +44,6 @@ entered_line laws d line command report end of (inl cut) =
     laws.keeps d line end (cut_short command) (Ok report) of cut.0.1
 entered_line laws d line command report end of (inr off) =
     laws.keeps d line end (called_off command) (Ok report) of off.3.1
-
--- why a sound session does not begin a command, out of memory aside
-own_of : (Own : Refusal → Type 0) (h : Holding) (r : Refusal) → h.spoiled ≡ false → r ≢ Memory
-    → IsHindrance Own h r → Own r
-own_of Own h Strange sound other is = absurd (false≢true (sym sound ∙ is))
-own_of Own h Memory sound other is = absurd (other refl)
-own_of Own h refusal sound other is = is.1
 
 -- what leaves something to do is refused in the line
 unsettled_refused : (d : Database) (line : Line) (command : Command)

@@ -20,7 +20,7 @@ use Rattle.rc_model.specs.Run.{after_take, course_of, standing_of}
 use Rattle.rc_model.proofs.RunLemmas.{legal_within, run_push}
 use Rattle.rc_model.proofs.StandingLemmas.{standing_done_here, standing_done_other}
 use Rattle.rc_model.proofs.StandingLemmas.{standing_first_down, standing_first_up}
-use Rattle.rc_core.proofs.Stories.{story_of}
+use Rattle.rc_core.proofs.Stories.{held_stands}
 use Rattle.rc_model.specs.Session.{IsLineOf}
 use Rattle.rc_livetext.specs.Spelling.{Spells, spelling}
 use Rattle.rc_script.specs.RunLines.{IsEventLine}
@@ -187,24 +187,12 @@ module _ (d : Database) (line new : Line) (l : Logged) (events : List Event) (w 
     },
   )
 
--- how a service stands whose transition is under way
-stands : (c : Course) (events : List Event) (w s : ℕ) → IsRun c events → IsHeldBy events w s
-    → standing_of c events s ≡ after_take (standing_of c [] s)
-stands c events w s run held = elim (story_of c events s run) [
-  | inl stayed ↦ absurd (stayed.fresh (w, held.0))
-  | inr (inl out) ↦ out.stands
-  | inr (inr back) ↦ absurd
-      (held.1 back.outcome
-      (subst (λ (v : ℕ). Contains events (Done v s back.outcome)) (sym (back.alone w held.0))
-      back.at))
-]
-
 ends_here : (c : Course) (events : List Event) (w s : ℕ) → IsRun c events → IsHeldBy events w s
     → standing_of c (events ++ Done w s outcome.Ok ∷ []) s
     ≡ after_end true (after_take (standing_of c [] s))
 ends_here c events w s run held =
     standing_done_here c events w s outcome.Ok
-    ∙ ap (after_end true) (stands c events w s run held)
+    ∙ ap (after_end true) (held_stands c events w s run held)
 
 down_not_live : (c : Course) (events : List Event) (s : ℕ) → standing_of c events s ≡ Down
     → IsLive c events s → ⊥

@@ -2,7 +2,7 @@
 use Rattle.std.proofs.Common.{◌≡◌, ◌≢◌, ◌∙◌, ◌⊎◌, inl, inr, ℕ, List, [], ◌∷◌, ◌++◌, Option, Some}
 use Rattle.std.proofs.Common.{None, Ok, Err, length, arith, refl, ap, sym, subst, append_assoc}
 use Rattle.std.specs.List.{concat}
-use Rattle.std.proofs.lemmas.List.{append-nil}
+use Rattle.std.proofs.lemmas.List.{append-nil, append_cancel_left}
 use Rattle.std.proofs.lemmas.List.Elements.{recursion_from_All}
 use Rattle.rc_model.specs.declared.Event.{Event}
 use Rattle.rc_model.specs.Database.{Database}
@@ -10,6 +10,7 @@ use Rattle.rc_model.specs.Headline.{HasRun}
 use Rattle.rc_model.specs.Line.{Line}
 use Rattle.rc_model.specs.Session.{Command, Change, Undo, Redo, Add, Delete, IsLineOf, Reported}
 use Rattle.rc_model.specs.Session.{events_of}
+use Rattle.rc_model.proofs.ByteOrder.{same_or_other}
 use Rattle.rc_session.specs.Commands.{with_events}
 use Rattle.rc_session.specs.Holding.{Holding}
 use Rattle.rc_livetext.specs.LiveFaults.{IsLiveFault}
@@ -24,7 +25,7 @@ use Rattle.rc_recovery.specs.Files.{Files}
 use Rattle.rc_recovery.specs.Logging.{BeginsRun, HoldEvents, IsLogged, Logged}
 use Rattle.rc_recovery.specs.Recoveries.{AreCutRecoveries, EndsIn, IsAtRest, IsCutRecovery}
 use Rattle.rc_recovery.specs.Recoveries.{IsLineAfter, Makes, text_after}
-use Rattle.rc_recovery.proofs.Bytes.{cancel, one_longer, one_or_other, one_whole}
+use Rattle.rc_recovery.proofs.Bytes.{one_longer, one_whole}
 use Rattle.rc_recovery.proofs.Cut.{begins_cut, front_begins}
 use Rattle.rc_recovery.proofs.Entered.{entered_line, entered_on, is_entered, never_refused, one_end}
 use Rattle.rc_recovery.proofs.Known.{Laws}
@@ -93,7 +94,7 @@ module _ (laws : Laws) (d : Database) (line : Line) (l : Logged) (logged : IsLog
     script_is script (rest, at, are) =
         let lines : List ℕ = l.step ++ concat held.lines in
         let behind : lines ++ held.part ≡ rest =
-        cancel (spelling d line) (lines ++ held.part) rest
+        append_cancel_left (spelling d line) (lines ++ held.part) rest
         (sym log_is ∙ at ∙ ap (λ (t : List ℕ). t ++ rest) same_file)
         in
         one_whole script are.part lines held.part (sym are.bytes_are ∙ sym behind) are.ends
@@ -256,7 +257,7 @@ module _ (laws : Laws) (d : Database) (line : Line) (l : Logged) (logged : IsLog
         let there : h ≡ files (spelling d end) g.log =
         at ∙ ap (λ (t : List ℕ). files t g.log) spelled
         in
-        elim (one_or_other (spelling d end) (spelling d line)) [
+        elim (same_or_other (spelling d end) (spelling d line)) [
           | inl same ↦ inl (there ∙ ap (λ (t : List ℕ). files t g.log)
               (same ∙ sym (same_file (first ∷ more) g held)))
           | inr differ ↦ inr (

@@ -1,8 +1,8 @@
 -- A run stays one where its events are logged in another order.
 use Rattle.std.proofs.Common.{◌≡◌, ◌≢◌, ◌∙◌, ◌⊎◌, ◌↔◌, ◌==◌, inl, inr, ℕ, List, [], ◌∷◌, ◌++◌}
-use Rattle.std.proofs.Common.{length, Contains, refl, ap, sym, subst, append_assoc}
+use Rattle.std.proofs.Common.{Contains, refl, ap, sym, subst, append_assoc}
 use Rattle.std.proofs.lemmas.Bool.{cases_eq, cond-false, ne_eqb}
-use Rattle.std.proofs.lemmas.List.{append-nil, take_at}
+use Rattle.std.proofs.lemmas.List.{append-nil}
 use Rattle.std.proofs.lemmas.List.Elements.{Contains-push, Contains-push_cases}
 use Rattle.rc_model.specs.declared.Event.{Event}
 use Rattle.rc_model.specs.declared.Event.TheVariants.{Take, Done, Stop}
@@ -11,7 +11,7 @@ use Rattle.rc_model.specs.declared.Standing.TheVariants.{Sinking, Up}
 use Rattle.rc_model.specs.Run.{CanMove, Course, IsLegal, IsLive, IsRun, after_end, after_event}
 use Rattle.rc_model.specs.Run.{after_take, is_success, standing_of}
 use Rattle.rc_model.proofs.EventLemmas.{still_there, take_then_done, take_then_take}
-use Rattle.rc_model.proofs.RunLemmas.{run_prefix, run_push}
+use Rattle.rc_model.proofs.RunLemmas.{run_push, front_run}
 use Rattle.rc_model.proofs.StandingLemmas.{standing_push}
 use Rattle.rc_core.proofs.Places.{move_is_left}
 use Rattle.rc_core.proofs.Stories.{story_of}
@@ -78,11 +78,6 @@ more_alike c old new e alike = record {
       ∙ ap (λ (at : Standing). after_event s at e) (alike.stands s) ∙ sym (standing_push c new e s);
 }
 
-front_of : (c : Course) (events rest : List Event) → IsRun c (events ++ rest) → IsRun c events
-front_of c events rest run =
-    subst (λ (l : List Event). IsRun c l) (take_at events rest (length events) refl)
-    (run_prefix c (events ++ rest) (length events) run)
-
 -- what goes on after one goes on after the other
 goes_on : (c : Course) (rest old new : List Event) → Alike c old new → IsRun c new
     → IsRun c (old ++ rest) → IsRun c (new ++ rest) × Alike c (old ++ rest) (new ++ rest)
@@ -94,7 +89,7 @@ goes_on c [] old new alike run whole = (
 goes_on c (e ∷ rest) old new alike run whole =
     let split : old ++ e ∷ rest ≡ (old ++ e ∷ []) ++ rest = sym (append_assoc old (e ∷ []) rest) in
     let all : IsRun c ((old ++ e ∷ []) ++ rest) = subst (IsRun c) split whole in
-    let legal : IsLegal c old e = last c old e (front_of c (old ++ e ∷ []) rest all) in
+    let legal : IsLegal c old e = last c old e (front_run c (old ++ e ∷ []) rest all) in
     let on = goes_on c rest (old ++ e ∷ []) (new ++ e ∷ []) (more_alike c old new e alike)
     (run_push c new e run (legal_alike c old new e alike legal)) all in
     let P : List Event → List Event → Type 0 = λ l m. IsRun c m × Alike c l m in
@@ -216,7 +211,8 @@ turned c old new turn run =
     let old_is : old ≡ ((a ++ x ∷ []) ++ y ∷ []) ++ rest = turn.old_is ∙ two_more a rest x y in
     let new_is : new ≡ ((a ++ y ∷ []) ++ x ∷ []) ++ rest = turn.new_is ∙ two_more a rest y x in
     let whole : IsRun c (((a ++ x ∷ []) ++ y ∷ []) ++ rest) = subst (IsRun c) old_is run in
-    let two : IsRun c ((a ++ x ∷ []) ++ y ∷ []) = front_of c ((a ++ x ∷ []) ++ y ∷ []) rest whole in
+    let two : IsRun c ((a ++ x ∷ []) ++ y ∷ []) =
+    front_run c ((a ++ x ∷ []) ++ y ∷ []) rest whole in
     let on = goes_on c rest ((a ++ x ∷ []) ++ y ∷ []) ((a ++ y ∷ []) ++ x ∷ [])
     (turned_alike c a x y (differ_in c a x y turn.may two)) (turn_last c a x y turn.may two) whole
     in

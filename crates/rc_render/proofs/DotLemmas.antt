@@ -8,10 +8,11 @@ use Rattle.std.proofs.lemmas.List.FromFn.{map-range_with_len_more}
 use Rattle.std.specs.List.{flat_map, range_with_len}
 use Rattle.std.specs.Prelude.{map}
 use Rattle.rc_model.specs.Database.{Database, IsDatabase, Service}
+use Rattle.rc_model.proofs.Lists.{one_more}
 use Rattle.rc_render.specs.DotText.{edge_lines, look, need_end, node_line, service_line}
 use Rattle.rc_render.specs.DotText.{service_lines}
 use Rattle.rc_render.specs.Lines.{names_at}
-use Rattle.rc_render.proofs.LineLemmas.{at_place, one_more}
+use Rattle.rc_render.proofs.LineLemmas.{at_place}
 
 -- one more of the pieces that are joined, by its place
 pub one_more_place : (f : ℕ → List ℕ) (n : ℕ)

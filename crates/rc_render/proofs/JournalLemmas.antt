@@ -10,7 +10,7 @@ use Rattle.std.specs.List.{join_with_byte}
 use Rattle.std.proofs.lemmas.Option.{slice_get_within}
 use Rattle.rc_model.specs.Names.{Has, Holds}
 use Rattle.rc_model.proofs.SetMembers.{has_within}
-use Rattle.rc_model.specs.Line.{State, IsGained, IsEntry, Lists}
+use Rattle.rc_model.specs.Line.{State, IsGained, Lists}
 use Rattle.rc_render.specs.JournalText.{AreEntryLines, IsEntryLine, sign, signs}
 use Rattle.rc_render.proofs.NameLemmas.{is_none, with_comma, join_more}
 
@@ -139,13 +139,6 @@ member_more new old front name first before after grows was empty is =
     (ap (λ (t : List ℕ). join_with_byte 44 before ++ t)
     (comma_is first name ∙ ap (λ (b : Bool). with_comma b name) empty)
     ∙ sym (ap (join_with_byte 44) is ∙ join_more before name))))
-
--- a text that grew after its prefix
-pub grown_behind : (new old front part longer more : List ℕ) → new ≡ old ++ more
-    → old ≡ front ++ part → longer ≡ part ++ more → new ≡ front ++ longer
-grown_behind new old front part longer more grows was is =
-    grows ∙ (ap (λ (t : List ℕ). t ++ more) was
-    ∙ (append_assoc front part more ∙ ap (λ (t : List ℕ). front ++ t) (sym is)))
 
 -- the parts of a line, one after the other
 pub joined_line : (whole third second first place moves edit : List ℕ) → whole ≡ third ++ 10 ∷ []

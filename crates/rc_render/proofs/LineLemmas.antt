@@ -1,9 +1,9 @@
 -- Lines of names, name by name.
 use Rattle.rc_model.specs.Line.{Lists}
+use Rattle.rc_model.proofs.Lists.{one_more}
 use Rattle.std.proofs.Common.{◌≡◌, ◌∙◌, ℕ, ◌+◌, ◌<◌, ◌≤◌, List, [], ◌∷◌, ◌++◌, Some, length, map}
 use Rattle.std.proofs.Common.{take, slice_get, slice_index_or, get_or, All, arith, refl, ap, sym}
-use Rattle.std.proofs.lemmas.Grind.{flat_map-append}
-use Rattle.std.proofs.lemmas.List.{append-nil, map-append, map_push, take_all, take_more}
+use Rattle.std.proofs.lemmas.List.{map-append, map_push, take_all, take_more}
 use Rattle.std.proofs.lemmas.List.Elements.{Contains-get_or}
 use Rattle.std.proofs.lemmas.Option.{slice_get_within, slice_get-get_or}
 use Rattle.std.specs.List.{flat_map}
@@ -17,13 +17,6 @@ at_place names s name at =
     let read : Some (slice_index_or names s []) ≡ Some name =
     sym (slice_get-get_or names s [] within) ∙ at in
     cc
-
--- one more of the pieces that are joined
-pub one_more : {X : Type 0} (f : X → List ℕ) (before : List X) (x : X)
-    → flat_map f (before ++ x ∷ []) ≡ flat_map f before ++ f x
-one_more f before x =
-    flat_map-append f before (x ∷ []) ∙ ap (λ (n : List ℕ). flat_map f before ++ n)
-    (append-nil (f x))
 
 -- one more name of ids
 pub one_more_id : (f : List ℕ → List ℕ) (names : List (List ℕ)) (ids : List ℕ) (i : ℕ)

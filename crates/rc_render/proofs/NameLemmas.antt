@@ -7,8 +7,8 @@ use Rattle.std.proofs.lemmas.Option.{slice_get_within}
 use Rattle.std.specs.List.{flat_map, join_with_byte}
 use Rattle.rc_model.specs.Names.{Has}
 use Rattle.rc_model.proofs.SetMembers.{has_within}
+use Rattle.rc_model.proofs.Lists.{one_more}
 use Rattle.rc_render.specs.Lines.{names_at}
-use Rattle.rc_render.proofs.LineLemmas.{one_more}
 use Rattle.rc_render.specs.Names.{names_in}
 
 -- one more name of ids

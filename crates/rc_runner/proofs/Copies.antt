@@ -1,15 +1,9 @@
 -- Copies of lists, element by element.
-use Rattle.std.proofs.Common.{◌≡◌, ◌∙◌, ◌+◌, ◌<◌, ℕ, List, [], ◌∷◌, ◌++◌, All, Some, length, take}
+use Rattle.std.proofs.Common.{◌≡◌, ◌∙◌, ◌<◌, ℕ, List, All, Some, length, take}
 use Rattle.std.proofs.Common.{get_or, slice_get, arith, ap, subst, sym}
 use Rattle.std.proofs.lemmas.List.{get_or-take, length-take}
 use Rattle.std.proofs.lemmas.Option.{get_or_from_slice_get, slice_get_within}
-use Rattle.rc_model.proofs.Places.{take_next}
 use Rattle.rc_model.specs.Names.{IsBefore, IsInByteOrder}
-
--- one more element
-pub copied_next : {X : Type 0} (xs : List X) (i : ℕ) (x : X) → slice_get xs i ≡ Some x
-    → take (i + 1) xs ≡ take i xs ++ x ∷ []
-copied_next xs i x there = take_next xs i x there
 
 -- a name comes after all those before it
 pub before_next : (names copied : List (List ℕ)) (i : ℕ) (name : List ℕ) → IsInByteOrder names

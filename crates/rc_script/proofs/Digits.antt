@@ -1,7 +1,7 @@
 -- Numbers among the words of a line.
 use Rattle.std.proofs.Common.{◌≡◌, ◌<◌, ◌≤◌, ◌^◌, ℕ, Bool, true, false, cond, List, Some, None}
 use Rattle.std.proofs.Common.{Result, Ok, Err, length, arith, refl, ltb, ◌&&◌, ◌∙◌}
-use Rattle.std.proofs.lemmas.Bool.{ltb-true, lt-ltb}
+use Rattle.std.proofs.lemmas.Bool.{ltb-true, lt-ltb, and_parts, and_from}
 use Rattle.std.proofs.lemmas.Str.Parse.{IsNumeralModel, numerals_by_value, tells_all_ascii_digits}
 use Rattle.std.proofs.lemmas.Str.Parse.{parse_digits}
 use Rattle.std.specs.Result.{OkIff, result_ok}
@@ -11,10 +11,6 @@ use Rattle.rc_script.specs.Words.{is_digits, limit_of}
 
 model : IsNumeralModel (λ ds. all_ascii_digits ds ≡ true) (digits_value 10)
 model = numerals_by_value _ tells_all_ascii_digits
-
-pub halves : (a b : Bool) → (a && b) ≡ true → (a ≡ true) × (b ≡ true)
-halves true b e = (refl, e)
-halves false b e = absurd (cc)
 
 -- what is chosen where a test passes, and where it does not
 when : (b : Bool) (x : ℕ) → b ≡ true → Some x ≡ cond b (Some x) None
@@ -40,7 +36,7 @@ parsed_digits {E} bits word r digits parsed =
     by_result r (parse_digits model bits word r parsed parts.1)
   where
     parts : (ltb 0 (length word) ≡ true) × (all_ascii_digits word ≡ true)
-    parts = halves (ltb 0 (length word)) (all_ascii_digits word) digits
+    parts = and_parts (ltb 0 (length word)) (all_ascii_digits word) digits
 
     some : 0 < length word
     some = ltb-true 0 (length word) parts.0
@@ -60,9 +56,6 @@ parsed_digits {E} bits word r digits parsed =
 pub past : (a b : Bool) (x : ℕ) → a ≡ true → cond b (Some x) None ≡ cond (a && b) (Some x) None
 past a b x e = rw e refl
 
-both : (a b : Bool) → a ≡ true → b ≡ true → (a && b) ≡ true
-both a b e f = rw (e, f) refl
-
 -- a text of few digits is parsed to the limit that it gives
 pub limit_is : {E : Type 0} (word : List ℕ) (r : Result ℕ E) → is_digits word ≡ true
     → length word ≤ 10 → ParsesUnsigned 32 10 word r → result_ok r ≡ limit_of word
@@ -70,4 +63,5 @@ limit_is word r digits short parsed =
     parsed_digits 32 word r digits parsed
     ∙ past (is_digits word && ltb (length word) 11) (ltb (digits_value 10 word) (2 ^ 32))
     (digits_value 10 word)
-    (both (is_digits word) (ltb (length word) 11) digits (lt-ltb (length word) 11 (omega arith)))
+    (and_from (is_digits word) (ltb (length word) 11) digits
+    (lt-ltb (length word) 11 (omega arith)))

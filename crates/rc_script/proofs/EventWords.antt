@@ -3,8 +3,9 @@ use Rattle.std.proofs.Common.{◌≡◌, ◌∙◌, ◌<◌, ◌==◌, ◌||◌,
 use Rattle.std.proofs.Common.{Result, arith, refl, ltb, nat_lt, not, slice_index_or}
 use Rattle.std.specs.Result.{result_ok}
 use Rattle.std.specs.Str.Parse.{ParsesUnsigned, digits_value}
+use Rattle.std.proofs.lemmas.Bool.{and_parts}
 use Rattle.rc_script.specs.Words.{is_digits}
-use Rattle.rc_script.proofs.Digits.{halves, parsed_digits, past}
+use Rattle.rc_script.proofs.Digits.{parsed_digits, past}
 use Rattle.rc_script.specs.Numbers.{is_plain, number_in}
 use Rattle.rc_script.specs.Events.{event_in}
 
@@ -13,7 +14,7 @@ pub number_is : {E : Type 0} (bits : ℕ) (word : List ℕ) (r : Result ℕ E) �
     → ParsesUnsigned bits 10 word r → result_ok r ≡ number_in bits word
 number_is bits word r plain parsed =
     parsed_digits bits word r
-    (halves (is_digits word) (nat_lt (length word) 2 || not (slice_index_or word 0 0 == 48))
+    (and_parts (is_digits word) (nat_lt (length word) 2 || not (slice_index_or word 0 0 == 48))
     plain).0 parsed
     ∙ past (is_plain word) (ltb (digits_value 10 word) (2 ^ bits)) (digits_value 10 word) plain
 

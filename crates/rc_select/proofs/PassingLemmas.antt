@@ -14,12 +14,6 @@ put_in P old new i holds passed more = one_more_passed P old new i passed (λ s.
   λ cases. (more s).1 (⊎_elim (λ in_old. inl in_old) (λ is. inr is.0) cases),
 ))
 
--- or it is left out
-pub left_out : (P : ℕ → Type 0) (set : List Bool) (i : ℕ) → (P i → ⊥)
-    → Holds set (λ s. (s < i) × P s) → Holds set (λ s. (s < i + 1) × P s)
-left_out P set i fails passed = one_more_passed P set set i passed
-    (λ s. (λ has. inl has, λ cases. ⊎_elim (λ in_set. in_set) (λ is. absurd (fails is.1)) cases))
-
 -- none of those up to a further place is put in
 pub passed_to : (P : ℕ → Type 0) (set : List Bool) (at to : ℕ) → at ≤ to
     → ((s : ℕ) → at ≤ s → s < to → P s → ⊥) → Holds set (λ s. (s < at) × P s)

@@ -1,19 +1,12 @@
 -- Targets: closed, and the same for the same facts.
 use Rattle.std.proofs.Common.{◌↔◌, ℕ, Bool, true, false, List, inl, inr}
-use Rattle.rc_model.specs.Graph.{Needs, IsClosed, UpFrom, DownFrom}
-use Rattle.rc_graph.proofs.Paths.{up_is_closed, reaches_one, reaches_first}
+use Rattle.rc_model.specs.Graph.{IsClosed}
+use Rattle.rc_graph.proofs.Paths.{up_is_closed, down_before}
 use Rattle.rc_model.specs.declared.Mode.{Mode}
 use Rattle.rc_model.specs.declared.Mode.TheVariants.{Up, Down, DownAll}
 use Rattle.rc_model.specs.Plan.{Target, Kept}
+use Rattle.rc_model.proofs.Closures.{up_more, down_more}
 use Rattle.rc_select.specs.Sides.{MindsEssential}
-
--- what needs a service that reaches a member reaches one too
-pub down_before : (needs : List (List ℕ)) (In : ℕ → Type 0) (s t : ℕ) → Needs needs s t
-    → DownFrom needs In t → DownFrom needs In s
-down_before needs In s t need down = elim down [
-  | inl member ↦ inr (t, member, reaches_one needs s t need)
-  | inr r ↦ inr (r.0, r.1, reaches_first needs s t r.0 need r.2)
-]
 
 -- the target of a closed set is closed
 pub target_closed : (needs : List (List ℕ)) (IsUp IsEssentialUp IsWanted : ℕ → Type 0) (mode : Mode)
@@ -39,19 +32,6 @@ target_closed needs IsUp IsEssentialUp IsWanted DownAll prune closed s t target 
 pub same_closed : (needs : List (List ℕ)) (In Also : ℕ → Type 0) → ((s : ℕ) → In s → Also s)
     → ((s : ℕ) → Also s → In s) → IsClosed needs In → IsClosed needs Also
 same_closed needs In Also there back closed s t also need = there t (closed s t (back s also) need)
-
--- the closures of fewer members are smaller
-up_more : (needs : List (List ℕ)) (In Also : ℕ → Type 0) → ((s : ℕ) → In s → Also s) → (t : ℕ)
-    → UpFrom needs In t → UpFrom needs Also t
-up_more needs In Also there t up =
-    elim up [ inl here ↦ inl (there t here) | inr from ↦ inr (from.0, there from.0 from.1, from.2) ]
-
-down_more : (needs : List (List ℕ)) (In Also : ℕ → Type 0) → ((s : ℕ) → In s → Also s) → (t : ℕ)
-    → DownFrom needs In t → DownFrom needs Also t
-down_more needs In Also there t down = elim down [
-  | inl here ↦ inl (there t here)
-  | inr from ↦ inr (from.0, there from.0 from.1, from.2)
-]
 
 -- the same facts have the same target, and the same services are kept; of the essential services
 -- it is asked only where they make a difference

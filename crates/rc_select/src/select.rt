@@ -39,15 +39,7 @@ pub fn plan(
     }
     let wanted = wanted(alloc, db, table, up, request)?;
     let essential = essential_for(alloc, db, up, request.mode, request.prune)?;
-    let plan = planned(
-        alloc,
-        db.graph(),
-        up,
-        &essential,
-        request.mode,
-        request.prune,
-        &wanted,
-    )?;
+    let plan = planned(alloc, db.graph(), up, &essential, request, &wanted)?;
     Ok(plan)
 }
 
@@ -122,24 +114,24 @@ fn essential_up(alloc: Global, db: &Db, up: &Set) -> Result<Set, NoMem>
     Ok(set)
 }
 
-/// Creates the plan from what is up to what a mode makes of it.
+/// Creates the plan from what is up to what the mode of a request makes of it.
 fn planned(
     alloc: Global,
     graph: &Graph,
     up: &Set,
     essential: &Set,
-    mode: Mode,
-    prune: bool,
+    request: &Request,
     wanted: &Set,
 ) -> Result<Plan, NoMem>
     requires up_bound { length up.now ≡ length graph.now }
     requires essential_bound { length essential.now ≡ length graph.now }
     requires wanted_bound { length wanted.now ≡ length graph.now }
     requires essential_up { (s : ℕ) → Has essential.now s → Has up.now s }
-    ensures { IfOk result (IsPlanTo up.now
-        (Target graph.now (Has up.now) (Has essential.now) mode prune (Has wanted.now))
-        (Kept graph.now (Has essential.now) mode prune (Has wanted.now))) }
+    ensures { IfOk result (IsPlanTo up.now (Target graph.now (Has up.now) (Has essential.now)
+        request.now.mode request.now.prune (Has wanted.now))
+        (Kept graph.now (Has essential.now) request.now.mode request.now.prune
+        (Has wanted.now))) }
 {
-    let Sides { target, kept } = sides_of(alloc, graph, up, essential, mode, prune, wanted)?;
+    let Sides { target, kept } = sides_of(alloc, graph, up, essential, request, wanted)?;
     leading(alloc, up, &target, kept)
 }

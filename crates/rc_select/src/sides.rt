@@ -2,7 +2,7 @@ ghost use Rattle.std.specs.Prelude.{◌≡◌, true, false, length, IfOk};
 ghost use Rattle.rc_model.specs.Names.{Has, Holds};
 ghost use Rattle.rc_select.specs.Sides.{AreSides};
 
-use crate::request::Mode;
+use crate::request::{Mode, Request};
 use rc_graph::Graph;
 use rc_set::{NoMem, Set};
 use std::alloc::Global;
@@ -16,27 +16,26 @@ pub(crate) struct Sides {
 }
 
 /// Computes the target of a change and the essential services that stay, from what is up, the
-/// essential services among that, and what is wanted.
+/// essential services among that, and what the request wants.
 pub(crate) fn sides_of(
     alloc: Global,
     graph: &Graph,
     up: &Set,
     essential: &Set,
-    mode: Mode,
-    prune: bool,
+    request: &Request,
     wanted: &Set,
 ) -> Result<Sides, NoMem>
     requires up_bound { length up.now ≡ length graph.now }
     requires essential_bound { length essential.now ≡ length graph.now }
     requires wanted_bound { length wanted.now ≡ length graph.now }
-    ensures { IfOk result (λ sides.
-        AreSides graph.now up.now essential.now mode prune wanted.now sides.target sides.kept) }
+    ensures { IfOk result (λ sides. AreSides graph.now up.now essential.now
+        request.now.mode request.now.prune wanted.now sides.target sides.kept) }
 {
-    match (mode, prune) {
+    match (request.mode, request.prune) {
         (Mode::Up, false) => raised(alloc, graph, up, essential, wanted),
         (Mode::Up, true) => pruned(alloc, graph, up, essential, wanted),
-        (Mode::Down, _) => lowered(alloc, graph, up, essential, prune, wanted),
-        (Mode::DownAll, _) => lowered_all(alloc, graph, up, essential, prune, wanted),
+        (Mode::Down, _) => lowered(alloc, graph, up, essential, request.prune, wanted),
+        (Mode::DownAll, _) => lowered_all(alloc, graph, up, essential, request.prune, wanted),
     }
 }
 

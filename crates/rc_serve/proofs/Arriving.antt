@@ -115,7 +115,7 @@ module _ (c : Course) (events : List Event) (course : IsCourse c) (settled : IsS
     ])),
   )
 
-run_arrives : (d : Database) (here : Line) (command : Command) (told : Reported) (new : Line)
+pub run_arrives : (d : Database) (here : Line) (command : Command) (told : Reported) (new : Line)
     → IsDatabase d → IsLineOf d here → DoesByRun d here command told new
     → ending_of told ≡ Done → Holds new.current.live (TargetOfCommand d here command)
 run_arrives d here command told new is_db of run all =

@@ -12,6 +12,7 @@ use Rattle.rc_model.specs.Line.{State, Line, IsLine, IsNext, states, MovesTo, Mo
 use Rattle.rc_model.specs.Line.{MovesByRedo, put_between, put_last, with_live}
 use Rattle.rc_model.proofs.Fitting.{fitted_current}
 use Rattle.rc_line.proofs.Fronts.{differs_from_next}
+use Rattle.rc_line.proofs.Steps.{same_state}
 use Rattle.rc_model.specs.Session.{Command, Change, Undo, Redo, Add, Delete, IsLineOf}
 use Rattle.rc_session.specs.Holding.{Holding}
 use Rattle.rc_session.proofs.States.{current_state}
@@ -105,12 +106,6 @@ redo_still line live new is (on, next, inr (inr moves)) same =
     (moves.1 (ap (λ (s : State). s.live)
     (sym (ap (λ (l : Line). l.current) moves.2
     ∙ fitted_current (put_between line (with_live line live) on)) ∙ same)))
-
--- a state by its parts
-same_state : (a b : State) → a.live ≡ b.live → a.table ≡ b.table → a ≡ b
-same_state a b live table =
-    ap (λ (set : List Bool). record { live = set; table = a.table }) live
-    ∙ ap (λ (t : Bundles). record { live = b.live; table = t }) table
 
 module _ (workers : ℕ) (Answers : ℕ → Way → Outcome → Type 0) (Gives : ℕ → Type 0) (d : Database)
     (here : Line) (of : IsLineOf d here) where

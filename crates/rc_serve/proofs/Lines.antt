@@ -9,9 +9,9 @@ use Rattle.std.specs.Io.KnownBytes.{Appends}
 use Rattle.std.proofs.KnownBytes.{Appends-nil, Appends-trans, Consumes-nil, Consumes-trans}
 use Rattle.rc_model.specs.Database.{Database}
 use Rattle.rc_model.specs.Line.{Line}
+use Rattle.rc_model.proofs.Lists.{one_more}
 use Rattle.rc_session.specs.Holding.{Holding}
 use Rattle.rc_render.specs.Lines.{line}
-use Rattle.rc_render.proofs.LineLemmas.{one_more}
 use Rattle.rc_streams.specs.Exchange.{Exchange}
 use Rattle.rc_streams.specs.Input.{AppendsFront, ConsumesAtMost}
 use Rattle.rc_streams.specs.Taking.{Held, BeginsTooLong, HandsLine, HandsNothing, HandsOut, IsLine}

@@ -16,7 +16,8 @@ use Rattle.rc_core.specs.End.{EndOf}
 use Rattle.rc_core.specs.Failing.{WouldFail, IsTriedInVain, IsBlocked}
 use Rattle.rc_model.proofs.Members.{contains_first, contains_later, contains_cases, none_contained}
 use Rattle.rc_model.specs.Session.{Command, Change, Undo, Redo, Add, Delete, MovesBy, deadline_of}
-use Rattle.rc_session.proofs.Determined.{one_answer}
+use Rattle.rc_model.proofs.Turning.{named_in}
+use Rattle.rc_session.proofs.Determined.{one_answer, one_move}
 use Rattle.rc_session.proofs.Excluding.{can_not_own, done_not_refused, one_set, one_task}
 use Rattle.rc_session.proofs.Excluding.{task_not_own}
 use Rattle.rc_session.proofs.Lists.{one_list}
@@ -30,7 +31,6 @@ use Rattle.rc_render.specs.JournalText.{signs}
 use Rattle.rc_script.specs.Says.{Saying, SaysNothing, SaysWrong, SaysStep, SaysDry, SaysLive}
 use Rattle.rc_script.specs.Says.{SaysBundles, SaysJournal, Says}
 use Rattle.rc_streams.specs.Taking.{IsLine, IsOneLine}
-use Rattle.rc_serve.proofs.Moved.{one_move}
 use Rattle.rc_serve.specs.Meeting.{IsEdited, IsJournal, IsPlanned, IsRefused, Meets, MeetsCommand}
 use Rattle.rc_serve.specs.Meeting.{MeetsDry}
 use Rattle.rc_serve.specs.Serving.{AreLines, MeetsBytes, Serves}
@@ -41,15 +41,6 @@ abbrev SaysOnce : Type 0
 SaysOnce = (bytes : List ℕ) (a b : Saying) → Says bytes a → Says bytes b → a ≡ b
 
 -- edits between two tables are one
-named_in : (xs : List Alteration) (name : List ℕ) → Contains (names_altered xs) name
-    → (a : Alteration) × Contains xs a × (a.name ≡ name)
-named_in [] name there = absurd (none_contained name there)
-named_in (x ∷ xs) name there = elim (contains_cases x.name (names_altered xs) name there) [
-  | inl same ↦ (x, contains_first x xs, same)
-  | inr later ↦
-      let more = named_in xs name later in (more.0, contains_later x xs more.0 more.1, more.2)
-]
-
 in_named : (xs : List Alteration) (a : Alteration) → Contains xs a
     → Contains (names_altered xs) a.name
 in_named [] a there = absurd (none_contained a there)

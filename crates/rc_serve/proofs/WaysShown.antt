@@ -1,8 +1,8 @@
 -- Ways back and on, shown and not gone.
 use Rattle.std.proofs.Common.{◌≡◌, ◌≢◌, ◌∙◌, ◌+◌, ◌-◌, length-append, inl, inr, ℕ, suc, Bool}
-use Rattle.std.proofs.Common.{List, [], ◌∷◌, ◌++◌, Option, None, Some, Result, Ok, Err, IfOk, All}
+use Rattle.std.proofs.Common.{List, [], ◌∷◌, ◌++◌, Option, None, Some, Result, Ok, Err, IfOk}
 use Rattle.std.proofs.Common.{length, slice_get, ap, arith, refl, sym, subst}
-use Rattle.std.proofs.lemmas.Option.{slice_get_within, get_or_from_slice_get}
+use Rattle.std.proofs.lemmas.List.{nil_from_length}
 use Rattle.rc_model.specs.Names.{Has}
 use Rattle.rc_model.specs.Graph.{IsClosed}
 use Rattle.rc_model.specs.Database.{Database, IsDatabase}
@@ -13,6 +13,7 @@ use Rattle.rc_model.specs.Plan.{IsPlanTo, PlanSets}
 use Rattle.rc_model.specs.Session.{Command, Redo, Undo, IsLineOf, IsStateOf, IsOwnFault, IsTask}
 use Rattle.rc_model.specs.Session.{IsWay, Nothing}
 use Rattle.rc_model.specs.declared.Refusal.{Refusal}
+use Rattle.rc_model.proofs.Lists.{all_at}
 use Rattle.rc_render.specs.AnswerText.{words_of}
 use Rattle.rc_render.specs.Names.{ok_line}
 use Rattle.rc_render.specs.PlanText.{IsPlanText}
@@ -24,12 +25,6 @@ use Rattle.rc_session.proofs.EditEntries.{back_by_entry, on_by_entry}
 use Rattle.rc_session.proofs.Entries.{before_cursor}
 use Rattle.rc_session.proofs.States.{current_state}
 
--- what all are, the one at a place is
-at_place : {X : Type 0} (P : X → Type 0) (xs : List X) (p : ℕ) (s : X) → slice_get xs p ≡ Some s
-    → All P xs → P s
-at_place P xs p s there all =
-    subst P (get_or_from_slice_get xs p s s there) (all p s (slice_get_within xs p s there))
-
 -- a state's live set is one of the graph's services, and closed
 abbrev FitsIn : List (List ℕ) → List Bool → Type 0
 FitsIn needs live = (length live ≡ length needs) × IsClosed needs (Has live)
@@ -37,20 +32,12 @@ FitsIn needs live = (length live ≡ length needs) × IsClosed needs (Has live)
 fits : (d : Database) (s : State) → IsDatabase d → IsStateOf d s → FitsIn d.needs s.live
 fits d s is_db is = (is.bound ∙ sym is_db.fit.graph, is.closed)
 
-pub current_fits : (d : Database) (line : Line) (needs : List (List ℕ)) (live : List Bool)
-    → IsDatabase d → IsLineOf d line → needs ≡ d.needs → live ≡ line.current.live
-    → FitsIn needs live
-current_fits d line needs live is_db of same is =
-    subst (λ (n : List (List ℕ)). FitsIn n live) (sym same)
-    (subst (λ (l : List Bool). FitsIn d.needs l) (sym is)
-    (fits d line.current is_db (current_state d line of)))
-
 pub placed_fits : (d : Database) (line : Line) (place : ℕ) (to : State) (needs : List (List ℕ))
     → IsDatabase d → IsLineOf d line → needs ≡ d.needs → slice_get (states line) place ≡ Some to
     → FitsIn needs to.live
 placed_fits d line place to needs is_db of same there =
     subst (λ (n : List (List ℕ)). FitsIn n to.live) (sym same)
-    (fits d to is_db (at_place (IsStateOf d) (states line) place to there of.each))
+    (fits d to is_db (all_at (IsStateOf d) (states line) place to there of.each))
 
 -- the opening of a plan that leads from the current state is of the names
 pub opens : (d : Database) (line : Line) (names : List (List ℕ)) (Target : ℕ → Type 0)
@@ -104,15 +91,11 @@ redo_task d line at count e to plan of here all more entry there leads =
           (subst (λ (s : State). IsPlanTo line.current.live (Has s.live) Nothing plan) is leads),
     )
 
--- where there is nothing before or after
-pub none_before : {X : Type 0} (xs : List X) → length xs ≡ 0 → xs ≡ []
-none_before [] none = refl
-none_before (x ∷ xs) none = let bad : ⊥ = omega (arith, none) in absurd bad
-
+-- where there is nothing after
 pub none_after : (line : Line) (at count : ℕ) → at ≡ cursor line → count ≡ length (states line)
     → at + 1 ≡ count → line.after ≡ []
 none_after line at count here all last =
-    none_before line.after
+    nil_from_length line.after
     (omega (arith, here, all, last, length-append line.before (line.current ∷ line.after)))
 
 -- a plan to the state at a place

@@ -1,18 +1,20 @@
 -- Each task can be carried out with nothing failing: some events are a run of it, and they come to
 -- its target.
-use Rattle.std.proofs.Common.{◌≡◌, ◌∙◌, ℕ, Bool, true, false, List, [], length, refl, rules, sym}
+use Rattle.std.proofs.Common.{◌≡◌, ◌∙◌, ℕ, Bool, true, false, List, [], length, refl, sym}
 use Rattle.rc_model.specs.Names.{Has}
-use Rattle.rc_model.proofs.SetMembers.{has_or_lacks, has_within}
+use Rattle.rc_model.proofs.SetMembers.{has_or_lacks}
 use Rattle.rc_model.specs.Plan.{PlanSets}
 use Rattle.rc_model.specs.declared.Event.{Event}
 use Rattle.rc_model.specs.Run.{Course, HasFailed, IsStopped, IsLeft}
 use Rattle.rc_model.specs.Beside.{IsCourse, TargetOf}
 use Rattle.rc_core.proofs.Places.{planned_within}
-use Rattle.rc_model.specs.Line.{IsGained, Lists}
+use Rattle.rc_model.specs.Line.{IsGained}
 use Rattle.rc_model.specs.Session.{Reported, IsReportOf, EndsWith}
+use Rattle.rc_model.proofs.Telling.{lists_none}
 use Rattle.rc_session.proofs.Deciding.{Decided, both, not, set_of, holds_of, ids_of, ids_of_set}
 use Rattle.rc_session.proofs.WellRuns.{well_run, left_decided, ends_there, target_decided}
 use Rattle.rc_session.proofs.WellRuns.{target_within}
+use Rattle.rc_session.proofs.Differences.{gained}
 
 -- what a task comes to where all goes well
 pub record GoesThrough (c : Course) (plan : PlanSets) : Type 0 where
@@ -27,16 +29,6 @@ pub record GoesThrough (c : Course) (plan : PlanSets) : Type 0 where
 gained_decided : (from to : List Bool) (s : ℕ) → Decided (IsGained from to s)
 gained_decided from to s =
     both (Has to s) (Has from s → ⊥) (has_or_lacks to s) (not (Has from s) (has_or_lacks from s))
-
--- the services that one set has and the other lacks
-gained : (from to : List Bool) → (ids : List ℕ) × Lists (IsGained from to) ids
-gained from to =
-    ids_of (IsGained from to) (length to) (λ s low. gained_decided from to s)
-    (λ s is. has_within to s is.0)
-
-none_listed_of : (P : ℕ → Type 0) → ((s : ℕ) → P s → ⊥) → Lists P []
-none_listed_of P none =
-    record { ascending = search rules; same = λ s. (search rules, λ h. absurd (none s h)) }
 
 pub goes_through : (c : Course) (plan : PlanSets) → IsCourse c → GoesThrough c plan
 goes_through c plan course =
@@ -75,12 +67,12 @@ goes_through c plan course =
         opening = refl;
         lowered = lowered.1;
         raised = raised.1;
-        failed = none_listed_of (HasFailed events) goes.well;
+        failed = lists_none (HasFailed events) goes.well;
         blocked = record {
           ascending = left.1.ascending;
           same = λ s. (λ in_ids. ((left.1.same s).0 in_ids, goes.runs), λ h. (left.1.same s).1 h.0);
         };
-        untried = none_listed_of (λ s. IsLeft c events s × IsStopped events) (λ s h. goes.runs h.1);
+        untried = lists_none (λ s. IsLeft c events s × IsStopped events) (λ s h. goes.runs h.1);
         kept = kept.1;
         stopped = (λ bad. let is : false ≡ true = bad in cc, λ stopped. absurd (goes.runs stopped));
         trace = refl;

@@ -6,6 +6,7 @@ use Rattle.std.proofs.lemmas.Bool.{cases_eq, cases_lt}
 use Rattle.rc_model.specs.Line.{Lists}
 use Rattle.rc_model.specs.Names.{Has, Holds}
 use Rattle.rc_model.proofs.SetMembers.{has_or_lacks, has_within}
+use Rattle.rc_model.specs.Graph.{Needs}
 use Rattle.rc_set.specs.Listed.{ListsBelow}
 use Rattle.rc_set.proofs.Listing.{one_listed, one_passed, lists_as}
 use Rattle.rc_core.proofs.Finishing.{none_listed, all_listed}
@@ -173,3 +174,6 @@ pub first_of : {X : Type 0} (xs : List X) → xs ≢ []
     → (first : X) × (rest : List X) × (xs ≡ first ∷ rest)
 first_of [] some = absurd (some refl)
 first_of (x ∷ xs) some = (x, xs, refl)
+
+pub needs_decided : (needs : List (List ℕ)) (s t : ℕ) → Decided (Needs needs s t)
+needs_decided needs s t = member_decided (slice_index_or needs s []) t number_decided

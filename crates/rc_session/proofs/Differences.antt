@@ -15,6 +15,7 @@ use Rattle.rc_db.proofs.Values.{value_of-absent}
 use Rattle.rc_db.proofs.Words.{value_of-named}
 use Rattle.rc_model.specs.Line.{Alteration, IsAlteration, IsEdit, names_altered, State, Entry}
 use Rattle.rc_model.specs.Line.{IsEntry, IsGained, Lists}
+use Rattle.rc_model.proofs.Turning.{named_in}
 use Rattle.rc_session.proofs.Deciding.{both, not, member_decided, ids_of}
 use Rattle.rc_session.proofs.TablesExist.{all_from, put_in}
 
@@ -72,15 +73,6 @@ joined old (bundle ∷ rest) order = elim (member_decided (names_of old) bundle.
               ),
         ),
       )
-]
-
-named_in : (edit : List Alteration) (name : List ℕ) → Contains (names_altered edit) name
-    → (a : Alteration) × Contains edit a × (a.name ≡ name)
-named_in [] name there = absurd (none_contained name there)
-named_in (a ∷ edit) name there = elim (contains_cases a.name (names_altered edit) name there) [
-  | inl same ↦ (a, contains_first a edit, same)
-  | inr later ↦
-      let more = named_in edit name later in (more.0, contains_later a edit more.0 more.1, more.2)
 ]
 
 alteration_at : Bundles → Bundles → List ℕ → Alteration
@@ -212,7 +204,8 @@ module _ (old new : Bundles) where
         },
       )
 
-gained : (from to : List Bool) → (ids : List ℕ) × Lists (IsGained from to) ids
+-- the services that one set has and the other lacks
+pub gained : (from to : List Bool) → (ids : List ℕ) × Lists (IsGained from to) ids
 gained from to = ids_of (IsGained from to) (length to)
     (λ s low. both (Has to s) (Has from s → ⊥) (has_or_lacks to s)
     (not (Has from s) (has_or_lacks from s)))

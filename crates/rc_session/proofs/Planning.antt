@@ -10,7 +10,7 @@ use Rattle.rc_model.proofs.ByteOrder.{same_or_other}
 use Rattle.rc_model.specs.Graph.{Needs, EachNeedsNext, AreServices, IsAcyclic, Reaches, UpFrom}
 use Rattle.rc_model.specs.Graph.{DownFrom}
 use Rattle.rc_graph.proofs.Inductions.{acyclic_up, acyclic_down}
-use Rattle.rc_graph.proofs.Paths.{reaches_one, reaches_first, up_is_closed}
+use Rattle.rc_graph.proofs.Paths.{reaches_one, reaches_first, up_is_closed, down_before}
 use Rattle.rc_graph.proofs.RowLemmas.{needer_known}
 use Rattle.rc_model.specs.Database.{Bundles, names_of, value_of, HaveBound, Database, IsDatabase}
 use Rattle.rc_model.specs.Database.{IsEssential, Service, StandsFor, Selected, IsKnown, IsFirst}
@@ -19,10 +19,9 @@ use Rattle.rc_model.specs.declared.Mode.{Mode}
 use Rattle.rc_model.specs.declared.Mode.TheVariants.{Up, Down, DownAll}
 use Rattle.rc_model.specs.Plan.{Ask, IsWanted, IsEssentialUp, TargetOfAsk, IsPlanOf, PlanSets}
 use Rattle.rc_model.specs.Plan.{Target, Kept}
-use Rattle.rc_select.proofs.TargetLemmas.{down_before}
 use Rattle.rc_session.proofs.Deciding.{Decided, both, either, not, where_so, some_below}
 use Rattle.rc_session.proofs.Deciding.{member_decided, flag_decided, set_of, holds_of}
-use Rattle.rc_session.proofs.WellRuns.{needs_decided}
+use Rattle.rc_session.proofs.Deciding.{needs_decided}
 
 -- words of which none is such, or the first one
 pub first_or_none : (P : List ℕ → Type 0) → ((word : List ℕ) → Decided (P word))

@@ -1,7 +1,7 @@
 -- Each course has a settled run in which nothing fails: what may be taken is taken and ends well,
 -- one after the other, until nothing may.
 use Rattle.std.proofs.Common.{◌≡◌, ◌∙◌, ◌↔◌, ◌⊎◌, ◌<◌, ◌≤◌, ℕ, zero, suc, inl, inr, Bool, true}
-use Rattle.std.proofs.Common.{false, List, [], ◌∷◌, ◌++◌, length, count_by, slice_index_or}
+use Rattle.std.proofs.Common.{false, List, [], ◌∷◌, ◌++◌, length, count_by}
 use Rattle.std.proofs.Common.{Contains, refl, sym, subst, arith}
 use Rattle.std.proofs.lemmas.List.Elements.{Contains-push}
 use Rattle.rc_model.specs.Names.{Has, Holds}
@@ -26,8 +26,8 @@ use Rattle.rc_core.proofs.Opening.{none_happened}
 use Rattle.rc_core.proofs.Places.{planned_within, move_is_left}
 use Rattle.rc_model.proofs.RunLemmas.{run_empty, run_push, done_was_taken}
 use Rattle.rc_core.proofs.Stories.{story_of}
-use Rattle.rc_session.proofs.Deciding.{Decided, both, either, not, some_below, member_decided}
-use Rattle.rc_session.proofs.Deciding.{number_decided, IsSetOf, set_of, holds_of}
+use Rattle.rc_session.proofs.Deciding.{Decided, both, either, not, some_below}
+use Rattle.rc_session.proofs.Deciding.{IsSetOf, set_of, holds_of, needs_decided}
 
 -- a run in which nothing is held, nothing failed and nobody stopped
 pub record GoesWell (c : Course) (events : List Event) : Type 0 where
@@ -53,9 +53,6 @@ standing_decided Sinking Down = inr (λ e. let bad : Sinking ≡ Down = e in cc)
 standing_decided Sinking Rising = inr (λ e. let bad : Sinking ≡ Rising = e in cc)
 standing_decided Sinking Up = inr (λ e. let bad : Sinking ≡ Up = e in cc)
 standing_decided Sinking Sinking = inl refl
-
-pub needs_decided : (needs : List (List ℕ)) (s t : ℕ) → Decided (Needs needs s t)
-needs_decided needs s t = member_decided (slice_index_or needs s []) t number_decided
 
 module _ (c : Course) (course : IsCourse c) where
   taken_decided : (events : List Event) → IsRun c events → (s : ℕ) → Decided (WasTaken events s)

@@ -7,6 +7,7 @@ use Rattle.std.proofs.lemmas.List.Elements.{All-nil}
 use Rattle.rc_model.specs.declared.Kind.{Kind}
 use Rattle.rc_model.specs.declared.Kind.TheVariants.{Oneshot, Longrun, Bundle}
 use Rattle.rc_model.specs.Names.{IsName}
+use Rattle.rc_model.proofs.Members.{none_contained}
 use Rattle.rc_source.specs.declared.entry.Service.{Service}
 use Rattle.rc_source.specs.Tree.{Source, file_at}
 use Rattle.rc_source.specs.Texts.{IsScriptText}
@@ -14,7 +15,6 @@ use Rattle.rc_source.specs.Kinds.{kind_of, is_file_of}
 use Rattle.rc_source.specs.Meaning.{Meaning, ListsNames, Means, IsMeaning, IsGiven, given_in}
 use Rattle.rc_source.specs.Meaning.{bytes_that_count}
 use Rattle.rc_source.specs.Said.{IsNamedIn, SayService, IsSaid}
-use Rattle.rc_source.proofs.Members.{Contains-nil}
 
 -- what services say, with their kind and texts
 abbrev pub meaning_with : List ℕ → Kind → Option (List ℕ) → Option (List ℕ) → Service → Meaning
@@ -60,7 +60,7 @@ shown_script bytes (Some t) h = h
 lists_none : (P : List ℕ → Type 0) → ((name : List ℕ) → P name → ⊥) → ListsNames P []
 lists_none P none = record {
   order = λ i j d before within. absurd (omega arith);
-  same = λ name. (λ there. absurd (Contains-nil name there), λ p. absurd (none name p));
+  same = λ name. (λ there. absurd (none_contained name there), λ p. absurd (none name p));
 }
 
 module _ (source : Source) (entry : List ℕ) (kind : Kind) (file : List ℕ) where
@@ -86,7 +86,7 @@ module _ (source : Source) (entry : List ℕ) (kind : Kind) (file : List ℕ) wh
       → is_file_of kind (file ++ codes ".d") ≡ false
       → ListsNames (IsGiven source entry kind file) []
   gives_none here folder = lists_none (IsGiven source entry kind file) (λ name given. ⊎_elim
-      (λ line. Contains-nil name (subst (λ o. Contains (given_in o) name) here line))
+      (λ line. none_contained name (subst (λ o. Contains (given_in o) name) here line))
       (λ beside. true≢false (sym beside.0 ∙ folder)) given)
 
 pub oneshot_means : (source : Source) (entry up : List ℕ) (down : Option (List ℕ))
@@ -146,7 +146,7 @@ bundle_means source entry contents kind lists = record {
   producer_for = refl;
   pipeline_name = refl;
   dependencies = gives_none source entry Bundle (codes "dependencies") refl refl;
-  consumer_for = lists_none (Contains []) (λ name there. Contains-nil name there);
+  consumer_for = lists_none (Contains []) (λ name there. none_contained name there);
   contents = lists_given source entry Bundle (codes "contents") contents refl refl lists;
 }
 

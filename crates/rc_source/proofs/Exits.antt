@@ -1,6 +1,6 @@
 -- The exit of a `?`.
 use Rattle.std.proofs.Common.{◌≡◌, ◌≢◌, Result, Ok, Err, refl, sym, subst}
-use Rattle.std.specs.Result.{IfOk, IfErr, OnOk, IsErrAnd}
+use Rattle.std.specs.Result.{IfErr, OnOk, IsErrAnd}
 use Rattle.rc_source.specs.declared.fault.Flaw.{Flaw}
 use Rattle.rc_source.specs.declared.fault.Flaw.TheVariants.{Memory}
 
@@ -10,12 +10,7 @@ pub exit : {T E : Type 0} (r : Result T E) (told : E) (P : E → Type 0) → IsE
 exit (Ok x) told P h p = tt
 exit (Err e) told P h p = subst P (sym h) p
 
--- what is promised of a value is not of an error
-pub no_value : {T E : Type 0} (r : Result T E) (told : E) (P : T → Type 0)
-    → IsErrAnd r (λ e. e ≡ told) → IfOk r P
-no_value (Ok x) told P h = absurd h
-no_value (Err e) told P h = tt
-
+-- what is promised of a success is not of an error
 pub no_success : {T E : Type 0} (r : Result T E) (told : E) (P : Type 0)
     → IsErrAnd r (λ e. e ≡ told) → OnOk r P
 no_success (Ok x) told P h = absurd h

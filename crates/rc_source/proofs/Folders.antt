@@ -1,10 +1,10 @@
 -- The names that a file and a folder give, as they are put together.
 use Rattle.std.proofs.Common.{◌≡◌, ◌↔◌, ◌⊎◌, ◌∙◌, ⊎_elim, inl, inr, ℕ, ◌+◌, ◌<◌, Bool, true, false}
 use Rattle.std.proofs.Common.{not, All, List, [], ◌∷◌, ◌++◌, length, get_or, take, map, Contains}
-use Rattle.std.proofs.Common.{refl, sym, ap, subst, true≢false, arith, Result, Ok, Err}
+use Rattle.std.proofs.Common.{refl, sym, ap, subst, true≢false, Result, Ok, Err}
 use Rattle.std.specs.Result.{IfOk, OnOk}
 use Rattle.std.proofs.Math.ListN.{get_or-map}
-use Rattle.std.proofs.lemmas.List.{take_more, length-map}
+use Rattle.std.proofs.lemmas.List.{length-map}
 use Rattle.std.proofs.lemmas.List.Elements.{All-contains, Contains-get_or, Contains-append_cases}
 use Rattle.std.proofs.lemmas.List.Elements.{Contains-append_left, Contains-append_right}
 use Rattle.rc_model.specs.Names.{IsInByteOrder, IsName, IsBefore}
@@ -15,8 +15,10 @@ use Rattle.rc_source.specs.Kinds.{is_hidden, NameEach}
 use Rattle.rc_source.specs.Tree.{Source, AreEntries, IsSource, names_next}
 use Rattle.rc_source.specs.Tests.{entries_of}
 use Rattle.rc_source.specs.Meaning.{ListsNames}
-use Rattle.rc_source.proofs.Members.{only, Contains-here, Contains-nil}
+use Rattle.rc_source.proofs.Members.{Contains-here}
 use Rattle.rc_model.proofs.ByteOrder.{same_names}
+use Rattle.rc_model.proofs.Members.{none_contained, only}
+use Rattle.rc_model.proofs.Mapped.{mapped_next}
 use Rattle.rc_source.proofs.Filtering.{Contains-filter}
 use Rattle.std.proofs.lemmas.List.Kept.{AllPairs-filter}
 
@@ -27,7 +29,7 @@ pub lists_one : (P : List ℕ → Type 0) (old new names : List (List ℕ)) → 
 lists_one P old new names empty e order same = record {
   order = subst IsInByteOrder (sym e) order;
   same = λ name. (
-    λ there. ⊎_elim (λ none. absurd (Contains-nil name (subst (λ l. Contains l name) empty none)))
+    λ there. ⊎_elim (λ none. absurd (none_contained name (subst (λ l. Contains l name) empty none)))
         (λ p. p) ((same name).0 (subst (λ l. Contains l name) e there)),
     λ p. subst (λ l. Contains l name) (sym e) ((same name).1 (inr p)),
   );
@@ -52,21 +54,13 @@ lists_both P Q old mid new names empty e order first second =
           either,
     ))
 
--- one more of what is shown
-pub shown_more : {X : Type 0} (f : X → List ℕ) (xs : List X) (i : ℕ) (x : X) → i < length xs
-    → x ≡ get_or xs i x → take (i + 1) (map f xs) ≡ take i (map f xs) ++ f x ∷ []
-shown_more f xs i x within here =
-    let n = length-map xs f in
-    take_more (map f xs) i (f x) (omega arith)
-    ∙ ap (λ y. take i (map f xs) ++ y ∷ []) (get_or-map f xs i x ∙ ap f (sym here))
-
 -- one more of what is shown is pushed
 pub push_shown : {X : Type 0} (f : X → List ℕ) (xs : List X) (i : ℕ) (x : X)
     (old new : List (List ℕ)) (name : List ℕ) → i < length xs → x ≡ get_or xs i x
     → new ≡ old ++ name ∷ [] → old ≡ take i (map f xs) → name ≡ f x → new ≡ take (i + 1) (map f xs)
 push_shown f xs i x old new name within here pushed before same =
     pushed ∙ ap (λ l. l ++ name ∷ []) before ∙ ap (λ n. take i (map f xs) ++ n ∷ []) same
-    ∙ sym (shown_more f xs i x within here)
+    ∙ sym (mapped_next f xs i x within here)
 
 -- what is shown at a place
 pub shown_at : {X : Type 0} (f : X → List ℕ) (xs : List X) (i : ℕ) (x : X) (e : List ℕ)

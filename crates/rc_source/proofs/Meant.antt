@@ -6,9 +6,10 @@ use Rattle.std.proofs.lemmas.List.Elements.{All-nil, All-cons, All-push, Contain
 use Rattle.std.proofs.lemmas.List.Elements.{Contains-append_left, Contains-append_right}
 use Rattle.std.proofs.lemmas.List.Quantifiers.{all_pairs_push}
 use Rattle.rc_names.specs.Names.{Adds}
+use Rattle.rc_model.proofs.Members.{contains_later, only}
 use Rattle.rc_source.specs.Meaning.{Meaning, IsMeaning, AreMeanings}
 use Rattle.rc_source.specs.Said.{AreFound, meant}
-use Rattle.rc_source.proofs.Members.{only, Contains-here, Contains-there}
+use Rattle.rc_source.proofs.Members.{Contains-here}
 
 -- a name that is not among theirs is none of theirs
 free_of : (ms : List Meaning) (m : Meaning) → (Contains (meant ms) m.name → ⊥)
@@ -16,7 +17,7 @@ free_of : (ms : List Meaning) (m : Meaning) → (Contains (meant ms) m.name → 
 free_of [] m free = All-nil (λ a. a.name ≢ m.name)
 free_of (a ∷ ms) m free = All-cons (λ a. a.name ≢ m.name) a ms
     (λ same. free (Contains-here a.name (meant ms) m.name (sym same)))
-    (free_of ms m (λ there. free (Contains-there a.name (meant ms) m.name there)))
+    (free_of ms m (λ there. free (contains_later a.name (meant ms) m.name there)))
 
 -- one more meaning, of a new name
 found_more : (ms : List Meaning) (m : Meaning) → AreMeanings ms → IsMeaning m

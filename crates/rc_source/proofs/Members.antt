@@ -10,34 +10,21 @@ use Rattle.std.specs.Cmp.Lexicographic.{slice_cmp, texts_ties}
 use Rattle.std.specs.Ordering.{nat_cmp, is_eq}
 use Rattle.std.specs.Str.{bytes_eq}
 use Rattle.std.specs.declared.cmp.Ordering.{Ordering}
-use Rattle.std.specs.declared.cmp.Ordering.TheVariants.{Equal}
 use Rattle.std.proofs.lemmas.Slice.Eq.{bytes_eq-Decides}
+use Rattle.rc_model.proofs.ByteOrder.{same_names}
+use Rattle.rc_model.proofs.Members.{only}
+use Rattle.rc_source.specs.Meaning.{ListsNames}
 
 module _ {X : Type 0} where
-  pub only : (x y : X) → Contains (x ∷ []) y → y ≡ x
-  only x y (k, within, here) =
-      let first : k ≡ 0 = omega arith in
-      sym (subst (λ n. get_or (x ∷ []) n y ≡ y) first here)
-
   pub Contains-cons_cases : (y : X) (ys : List X) (x : X) → Contains (y ∷ ys) x
       → (x ≡ y) ⊎ Contains ys x
   Contains-cons_cases y ys x there =
       ⊎_elim (λ at. inl (only y x at)) (λ rest. inr rest)
       (Contains-append_cases (y ∷ []) ys x there)
 
-  pub Contains-there : (y : X) (ys : List X) (x : X) → Contains ys x → Contains (y ∷ ys) x
-  Contains-there y ys x rest = Contains-append_right (y ∷ []) ys x rest
-
   pub Contains-here : (y : X) (ys : List X) (x : X) → x ≡ y → Contains (y ∷ ys) x
   Contains-here y ys x same =
       subst (Contains (y ∷ ys)) (sym same) (Contains-get_or (y ∷ ys) 0 y (omega arith))
-
-  pub Contains-nil : (x : X) → Contains [] x → ⊥
-  Contains-nil x (k, within, here) = omega arith
-
--- texts that compare equal are one
-pub same_text : (a b : List ℕ) → slice_cmp nat_cmp a b ≡ Equal → a ≡ b
-same_text a b equal = (bytes_eq-Decides a b).0 (texts_ties a b ∙ ap is_eq equal)
 
 -- texts of which one stands before the other differ
 pub differs : (a b : List ℕ) (o : Ordering) → slice_cmp nat_cmp a b ≡ o → is_eq o ≡ false
@@ -80,3 +67,13 @@ pub moved_on : {X : Type 0} (old new left rest all : List X) (x : X) → new ≡
 moved_on old new left rest all x pushed first whole =
     ap (λ l. l ++ rest) pushed ∙ append_assoc old (x ∷ []) rest ∙ ap (λ l. old ++ l) (sym first)
     ∙ whole
+
+-- names that are listed are one list
+pub listed_once : (P : List ℕ → Type 0) (xs ys : List (List ℕ)) → ListsNames P xs
+    → ListsNames P ys → xs ≡ ys
+listed_once P xs ys x y =
+    same_names xs ys x.order y.order
+    (λ name. (
+      λ there. (y.same name).1 ((x.same name).0 there),
+      λ there. (x.same name).1 ((y.same name).0 there),
+    ))

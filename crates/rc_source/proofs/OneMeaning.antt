@@ -3,18 +3,8 @@ use Rattle.std.proofs.Common.{◌≡◌, ◌∙◌, ℕ, Bool, List, Option, sym
 use Rattle.std.proofs.lemmas.Option.{same_Some}
 use Rattle.rc_model.specs.declared.Kind.{Kind}
 use Rattle.rc_source.specs.Tree.{Source}
-use Rattle.rc_source.specs.Meaning.{Meaning, Means, ListsNames}
-use Rattle.rc_model.proofs.ByteOrder.{same_names}
-
--- names that are listed are one list
-listed_once : (P : List ℕ → Type 0) (xs ys : List (List ℕ)) → ListsNames P xs
-    → ListsNames P ys → xs ≡ ys
-listed_once P xs ys x y =
-    same_names xs ys x.order y.order
-    (λ name. (
-      λ there. (y.same name).1 ((x.same name).0 there),
-      λ there. (x.same name).1 ((y.same name).0 there),
-    ))
+use Rattle.rc_source.specs.Meaning.{Meaning, Means}
+use Rattle.rc_source.proofs.Members.{listed_once}
 
 -- a meaning from its parts
 unfoldable meaning_from : List ℕ → Kind → ℕ → ℕ → Bool → Option (List ℕ) → Option (List ℕ)

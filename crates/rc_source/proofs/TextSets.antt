@@ -18,11 +18,12 @@ use Rattle.std.specs.declared.cmp.Ordering.{Ordering}
 use Rattle.std.specs.declared.cmp.Ordering.TheVariants.{Less, Equal, Greater}
 use Rattle.std.proofs.lemmas.Slice.Eq.{bytes_eq-Decides}
 use Rattle.rc_model.specs.Names.{IsBefore, IsInByteOrder}
+use Rattle.rc_model.proofs.Members.{contains_later, none_contained}
+use Rattle.rc_model.proofs.ByteOrder.{same_text}
 use Rattle.rc_names.specs.Names.{Adds}
 use Rattle.rc_source.specs.Tree.{value_at, IsPutAt}
-use Rattle.rc_source.proofs.Members.{Contains-cons_cases, Contains-here, Contains-there}
-use Rattle.rc_source.proofs.Members.{Contains-nil}
-use Rattle.rc_source.proofs.Members.{same_text, differs, bytes_eq-refl}
+use Rattle.rc_source.proofs.Members.{Contains-cons_cases, Contains-here}
+use Rattle.rc_source.proofs.Members.{differs, bytes_eq-refl}
 
 module _ {K : Type 0} (bytes : K → List ℕ) where
   -- the order of the keys' bytes
@@ -48,7 +49,7 @@ module _ {K : Type 0} (bytes : K → List ℕ) where
   adds_step k x xs rest text more Less e = (
     λ there. ⊎_elim (λ here. inr here) (λ old. inl old)
         (Contains-cons_cases (bytes k) (map bytes (x ∷ xs)) text there),
-    λ either. ⊎_elim (λ old. Contains-there (bytes k) (map bytes (x ∷ xs)) text old)
+    λ either. ⊎_elim (λ old. contains_later (bytes k) (map bytes (x ∷ xs)) text old)
         (λ here. Contains-here (bytes k) (map bytes (x ∷ xs)) text here) either,
   )
   adds_step k x xs rest text more Equal e = (
@@ -59,13 +60,13 @@ module _ {K : Type 0} (bytes : K → List ℕ) where
   )
   adds_step k x xs rest text more Greater e = (
     λ there. ⊎_elim (λ here. inl (Contains-here (bytes x) (map bytes xs) text here))
-        (λ later. ⊎_elim (λ old. inl (Contains-there (bytes x) (map bytes xs) text old))
+        (λ later. ⊎_elim (λ old. inl (contains_later (bytes x) (map bytes xs) text old))
         (λ new. inr new) (more.0 later))
         (Contains-cons_cases (bytes x) (map bytes rest) text there),
     λ either. ⊎_elim (λ old. ⊎_elim (λ here. Contains-here (bytes x) (map bytes rest) text here)
-        (λ later. Contains-there (bytes x) (map bytes rest) text (more.1 (inl later)))
+        (λ later. contains_later (bytes x) (map bytes rest) text (more.1 (inl later)))
         (Contains-cons_cases (bytes x) (map bytes xs) text old))
-        (λ new. Contains-there (bytes x) (map bytes rest) text (more.1 (inr new))) either,
+        (λ new. contains_later (bytes x) (map bytes rest) text (more.1 (inr new))) either,
   )
 
   -- a key that is put in adds its text
@@ -74,7 +75,7 @@ module _ {K : Type 0} (bytes : K → List ℕ) where
   Adds-insert_key [] k text = (
     λ there. ⊎_elim (λ here. inr here) (λ rest. inl rest)
         (Contains-cons_cases (bytes k) [] text there),
-    λ either. ⊎_elim (λ rest. absurd (Contains-nil text rest))
+    λ either. ⊎_elim (λ rest. absurd (none_contained text rest))
         (λ here. Contains-here (bytes k) [] text here) either,
   )
   Adds-insert_key (x ∷ xs) k text =
@@ -98,13 +99,13 @@ module _ {K : Type 0} (bytes : K → List ℕ) where
           → (o : Ordering) → slice_cmp nat_cmp text (bytes k) ≡ o
           → (is_eq o || list_any (λ k. is_eq (slice_cmp nat_cmp text (bytes k))) ks) ≡ true
           → Contains (map bytes (k ∷ ks)) text
-      by more Less e f = Contains-there (bytes k) (map bytes ks) text (more f)
+      by more Less e f = contains_later (bytes k) (map bytes ks) text (more f)
       by more Equal e f = Contains-here (bytes k) (map bytes ks) text (same_text text (bytes k) e)
-      by more Greater e f = Contains-there (bytes k) (map bytes ks) text (more f)
+      by more Greater e f = contains_later (bytes k) (map bytes ks) text (more f)
 
   pub any-from_Contains : (ks : List K) (text : List ℕ) → Contains (map bytes ks) text
       → list_any (λ k. is_eq (slice_cmp nat_cmp text (bytes k))) ks ≡ true
-  any-from_Contains [] text there = absurd (Contains-nil text there)
+  any-from_Contains [] text there = absurd (none_contained text there)
   any-from_Contains (k ∷ ks) text there = ⊎_elim
       (λ here. let ties : is_eq (slice_cmp nat_cmp text (bytes k)) ≡ true =
       sym (texts_ties text (bytes k)) ∙ (bytes_eq-Decides text (bytes k)).1 here in rw ties refl)

@@ -7,7 +7,7 @@ use Rattle.std.proofs.lemmas.List.{append-nil, take_all}
 use Rattle.std.proofs.lemmas.List.Elements.{All-append}
 use Rattle.rc_streams.specs.declared.input.Failure.{Failure}
 use Rattle.rc_streams.specs.declared.input.Failure.TheVariants.{TooLong, Read, Write, Memory}
-use Rattle.std.specs.Io.KnownBytes.{Consumes, Keeps}
+use Rattle.std.specs.Io.KnownBytes.{Keeps}
 use Rattle.std.proofs.KnownBytes.{Consumes-kept, Consumes-trans}
 use Rattle.rc_streams.specs.Taking.{Held, BeginsTooLong, HandsOut, IsLine, IsOneLine, IsPartFault}
 use Rattle.rc_streams.specs.Taking.{IsRefillFault, LacksLine, MovesPart, Refills, Takes}
@@ -75,11 +75,6 @@ takes_more old here new before held after first last = record {
   consumed = Consumes-trans old here new first.bytes last.bytes first.consumed last.consumed;
   counted = omega (arith, first.counted, last.counted, length-append first.bytes last.bytes);
 }
-
--- a list of no length
-pub no_length : (xs : List ℕ) → length xs ≡ 0 → xs ≡ []
-no_length [] none = refl
-no_length (x ∷ xs) none = absurd (omega arith)
 
 -- the line has no room for what is held
 pub lacks_part : (failed : Type 0) (old new : Option (List ℕ)) (before here after : Held)

@@ -1,8 +1,7 @@
 -- One read into a buffer, what it adds to what was taken, and how its failure is told.
 use Rattle.std.proofs.Common.{◌≡◌, ◌∙◌, ℕ, ◌+◌, ◌-◌, ◌<◌, ◌≤◌, min, List, [], ◌++◌, Option, Result}
-use Rattle.std.proofs.Common.{Ok, Err, IfErr, OnOk, IsErr, IfOk, length, take, ap, sym, subst}
+use Rattle.std.proofs.Common.{Ok, Err, IfErr, length, take, ap, sym, subst}
 use Rattle.std.proofs.Common.{arith, length-append, length-take}
-use Rattle.std.proofs.lemmas.Bool.{false≢true}
 use Rattle.std.proofs.lemmas.List.{length-take-le, take-append-le}
 use Rattle.std.specs.Result.{IsErrAnd}
 use Rattle.std.specs.Io.KnownBytes.{Consumes, IsAtEnd, Keeps}
@@ -106,15 +105,6 @@ refills_read known left buffer rest old new before after count grows none within
       ap (λ (n : ℕ). n + count) same,
       λ zero. (end zero some, omega arith),
     )
-
--- a failure has no value
-pub no_value : {T E : Type 0} (r : Result T E) (P : T → Type 0) → IsErr r → IfOk r P
-no_value (Ok x) P fails = absurd (false≢true fails)
-no_value (Err failure) P fails = tt
-
-pub no_success : {T E : Type 0} (r : Result T E) (P : Type 0) → IsErr r → OnOk r P
-no_success (Ok x) P fails = absurd (false≢true fails)
-no_success (Err failure) P fails = tt
 
 -- it fails where memory runs out, and for nothing else
 pub by_memory : {T : Type 0} (r : Result T Failure) (P : Failure → Type 0)

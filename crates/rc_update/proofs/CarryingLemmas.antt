@@ -3,8 +3,8 @@ use Rattle.std.proofs.Common.{◌≡◌, ◌∙◌, ◌≤◌, ◌<◌, inl, inr
 use Rattle.std.proofs.Common.{sym, ap, subst, arith}
 use Rattle.std.proofs.lemmas.Option.{slice_get_within, same_Some}
 use Rattle.rc_model.specs.Names.{Has, Holds}
-use Rattle.rc_model.specs.Graph.{Needs, IsClosed, DownFrom}
-use Rattle.rc_graph.proofs.Paths.{reaches_one, reaches_first}
+use Rattle.rc_model.specs.Graph.{IsClosed, DownFrom}
+use Rattle.rc_graph.proofs.Paths.{down_before}
 use Rattle.rc_names.specs.Names.{ListsNames}
 use Rattle.rc_model.proofs.ByteOrder.{one_place}
 use Rattle.rc_model.specs.Database.{Database, IsDatabase}
@@ -26,12 +26,6 @@ one_twin old new list s t u nd (a, x, at_old, on, at_new) (b, y, bt_old, also, b
     let same : x ≡ y = same_Some x y (sym on ∙ ap (counterpart list) one ∙ also) in
     one_place new.names y t u nd.names.order (at_new ∙ ap Some same) bt_new
 
--- what needs something altered along a path is to go down
-down_step : (needs : List (List ℕ)) (In : ℕ → Type 0) (s t : ℕ) → Needs needs s t
-    → DownFrom needs In t → DownFrom needs In s
-down_step needs In s t need (inl member) = inr (t, member, reaches_one needs s t need)
-down_step needs In s t need (inr r) = inr (r.0, r.1, reaches_first needs s t r.0 need r.2)
-
 -- what stays up needs in the new database only what stays up
 pub kept_closed : (old new : Database) (list : List Conversion) (IsUp : ℕ → Type 0)
     → IsDatabase new → IsClosed old.needs IsUp
@@ -43,7 +37,7 @@ kept_closed old new list IsUp nd closed unaltered t u (s, stays, twin) need =
     let needs : NeedTwins old new list s t =
     subst (NeedTwins old new list s) is same.1.needs in
     let from = needs.back u need in
-    let down = down_step old.needs (IsAlteredUp old new list IsUp) s from.0 from.1 in
+    let down = down_before old.needs (IsAlteredUp old new list IsUp) s from.0 from.1 in
     (from.0, (closed s from.0 stays.0 from.1, λ goes. stays.1 (down goes)), from.2)
 
 -- what is said of services by a set is said by what the set holds

@@ -8,14 +8,10 @@ use Rattle.std.proofs.lemmas.Slice.Eq.{bytes_eq-Decides}
 use Rattle.std.specs.Str.{bytes_eq}
 use Rattle.rc_model.specs.Database.{Database, IsDatabase}
 use Rattle.rc_model.proofs.ByteOrder.{one_place}
+use Rattle.rc_model.proofs.Tests.{told}
 use Rattle.rc_update.specs.Carrying.{IsTwin}
 use Rattle.rc_update.specs.Conversions.{Conversion, conversion_for, counterpart, is_taken, name_by}
 use Rattle.rc_update.specs.Distinct.{AreDistinct, AreDistinctBehind}
-
--- a test passes or fails
-told : (b : Bool) (P : Type 0) → (b ≡ true → P) → (b ≡ false → P) → P
-told true P first second = first refl
-told false P first second = second refl
 
 -- what the first of a list says, by its test
 first_for : (first : Conversion) (more : List Conversion) (name : List ℕ)

@@ -17,12 +17,6 @@ add_more Live Fine old new i live passed more =
           (⊎_elim (λ in_old. inl in_old) (λ is. inr (is.0, is.1.1)) cases),
     ))
 
--- or it is left out
-pub left_out : (P : ℕ → Type 0) (set : List Bool) (i : ℕ) → (P i → ⊥)
-    → Holds set (λ s. (s < i) × P s) → Holds set (λ s. (s < i + 1) × P s)
-left_out P set i fails passed = one_more_passed P set set i passed
-    (λ s. (λ has. inl has, λ cases. ⊎_elim (λ in_set. in_set) (λ is. absurd (fails is.1)) cases))
-
 -- of those passed each that is not put in is fine
 pub spared_next : (Live Fine : ℕ → Type 0) (old new : List Bool) (i : ℕ)
     → ((s : ℕ) → Has old s → Has new s) → (Live i → (Has new i → ⊥) → Fine i)

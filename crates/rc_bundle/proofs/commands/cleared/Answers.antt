@@ -1,13 +1,14 @@
 use Rattle.std.proofs.Common.{List, ℕ, None, string_bytes, subst, sym, arith}
 use Rattle.rc_model.specs.Line.{Removes, IsChangedAt}
+use Rattle.rc_model.proofs.Mapped.{mapped_next}
 use Rattle.rc_bundle.proofs.Changes.{removes_more, removed_below}
-use Rattle.rc_bundle.proofs.GoneOver.{take_word, take_words}
+use Rattle.rc_bundle.proofs.GoneOver.{take_words}
 use Rattle.rc_bundle.proofs.commands.cleared.Goals as goal
 
 pub loop-name-preserved : goal.loop-name-preserved
 loop-name-preserved c =
     subst (λ (words : List (List ℕ)). Removes c.args.table.now words c.clear.new.self)
-    (sym (take_word string_bytes c.args.names.now c.loop-name.name-index c.name-item.result
+    (sym (mapped_next string_bytes c.args.names.now c.loop-name.name-index c.name-item.result
     (omega arith) c.name-item.is))
     (removes_more _ _ _ _ _ c.loop-name.invariant
     (subst (λ (word : List ℕ). IsChangedAt c.loop-name.new word None c.clear.new.self)

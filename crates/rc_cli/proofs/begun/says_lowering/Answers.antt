@@ -2,10 +2,11 @@ use Rattle.std.proofs.Common.{[], map, string_bytes}
 use Rattle.rc_model.specs.Session.{Change}
 use Rattle.rc_model.specs.declared.Mode.TheVariants.{DownAll}
 use Rattle.rc_session.specs.Commands.{plain_of}
-use Rattle.rc_cli.proofs.BegunLemmas.{none_said, not_step, said_once, step_said}
+use Rattle.rc_cli.proofs.BegunLemmas.{none_said, said_once, step_said}
 use Rattle.rc_cli.specs.Begun.{lowering}
 use Rattle.rc_cli.specs.Steps.{step_ask}
 use Rattle.rc_script.specs.Says.{saying_of}
+use Rattle.rc_serve.proofs.Steps.{not_step}
 use Rattle.rc_cli.proofs.begun.says_lowering.Goals as goal
 
 pub returns-in_default : goal.returns-in_default

@@ -1,8 +1,9 @@
 use Rattle.std.proofs.Common.{[], inl, inr}
 use Rattle.rc_model.specs.Session.{Redo, Undo}
 use Rattle.rc_session.specs.Commands.{plain_of}
-use Rattle.rc_cli.proofs.BegunLemmas.{no_way, none_said, not_step, way_said}
+use Rattle.rc_cli.proofs.BegunLemmas.{no_way, none_said, way_said}
 use Rattle.rc_script.specs.Says.{saying_of}
+use Rattle.rc_serve.proofs.Steps.{not_step}
 use Rattle.rc_cli.proofs.begun.says_way.Goals as goal
 
 pub returns-in_default : goal.returns-in_default

@@ -3,7 +3,7 @@ use Rattle.std.proofs.Common.{IfNone, sym, subst}
 use Rattle.std.proofs.lemmas.Option.{IfSome_then}
 use Rattle.std.proofs.lemmas.Result.{IfOk-weaker}
 use Rattle.rc_source.specs.Said.{meaning_of}
-use Rattle.rc_source.proofs.Members.{Contains-nil}
+use Rattle.rc_model.proofs.Members.{none_contained}
 use Rattle.rc_compile.specs.Along.{IsLeast}
 use Rattle.rc_compile.specs.Book.{IsSought}
 use Rattle.rc_compile.proofs.Shown.{same_least}
@@ -33,5 +33,5 @@ returns-clause-none c =
     (λ found none. none_then found (λ empty s has.
     let there = (c.in_ok-names.ensures s).1 has in
     let gone : c.in_ok-names.names.items ≡ [] = cc (empty, c.deref.ensures.value) in
-    Contains-nil s (subst (λ (l : List (List ℕ)). Contains l s) gone there)) none)
+    none_contained s (subst (λ (l : List (List ℕ)). Contains l s) gone there)) none)
     c.least.ensures.none

@@ -3,10 +3,10 @@ use Rattle.std.proofs.Common.{Contains, IfNone, IfSome, sym, subst, true, true�
 use Rattle.std.proofs.lemmas.List.{length-map}
 use Rattle.std.proofs.lemmas.Slice.Eq.{bytes_eq-Decides}
 use Rattle.rc_model.proofs.Places.{contains_at}
+use Rattle.rc_model.proofs.Members.{none_contained}
 use Rattle.rc_db.proofs.Words.{mapped_at}
 use Rattle.rc_source.specs.Meaning.{Meaning}
 use Rattle.rc_source.specs.Said.{meaning_of}
-use Rattle.rc_source.proofs.Members.{Contains-nil}
 use Rattle.rc_compile.specs.Along.{IsLeast}
 use Rattle.rc_compile.specs.CompileFaults.{HasUnknown}
 use Rattle.rc_compile.specs.Book.{ShowsUnknown}
@@ -63,7 +63,7 @@ loop-definition-preserved c below =
           let empty : w.deref.result.now ≡ [] =
           without w.in_ok-name.field-0 w.in_default.is w.in_ok-name.ensures.none in
           let gone : w.in_ok-unknown.unknown.items ≡ [] = sym w.deref.ensures.value ∙ empty in
-          Contains-nil name
+          none_contained name
           (subst (λ (l : List (List ℕ)). Contains l name) gone
           ((w.in_ok-unknown.ensures name).1 (mentions, not)))
       | else-eq w ↦

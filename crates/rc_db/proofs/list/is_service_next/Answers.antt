@@ -10,8 +10,9 @@ use Rattle.rc_model.specs.Names.{IsBefore}
 use Rattle.rc_model.specs.Database.{names_of}
 use Rattle.rc_db.specs.Merging.{IsNext}
 use Rattle.rc_db.proofs.Fits.{on_true}
-use Rattle.rc_db.proofs.Listing.{before_from, less_from, on_false}
+use Rattle.rc_db.proofs.Listing.{less_from, on_false}
 use Rattle.rc_model.proofs.Places.{contains_at}
+use Rattle.rc_model.proofs.Texts.{before_from}
 use Rattle.rc_db.proofs.list.is_service_next.Goals as goal
 
 pub returns-then-id-len-clause-bundle : goal.returns-then-id-len-clause-bundle

@@ -4,8 +4,8 @@ use Rattle.std.proofs.lemmas.Bool.{false≢true}
 use Rattle.std.proofs.lemmas.List.{take_more, take_all}
 use Rattle.std.proofs.lemmas.List.Elements.{All-push}
 use Rattle.std.proofs.lemmas.Option.{slice_get_within}
+use Rattle.rc_model.proofs.Members.{contains_at}
 use Rattle.rc_dbtext.proofs.Drafting.{HasAdded, added_none, added_one}
-use Rattle.rc_dbtext.proofs.Naming.{member_at}
 use Rattle.rc_dbtext.proofs.build.add_needs.Goals as goal
 
 pub loop-need-init : goal.loop-need-init
@@ -45,7 +45,7 @@ loop-need-preserved c =
           c.loop-need.invariant.added found c.need.ensures.bound c.in_ok-need.ensures.pairs);
       known = subst P (sym more) (All-push (Contains c.args.names.now) front c.need-item.result
           c.loop-need.invariant.known
-          (member_at c.args.names.now c.in-Some.id c.need-item.result found));
+          (contains_at c.args.names.now c.in-Some.id c.need-item.result found));
     }
 
 pub returns-clause-known : goal.returns-clause-known

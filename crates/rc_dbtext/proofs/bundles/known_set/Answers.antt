@@ -4,10 +4,10 @@ use Rattle.std.proofs.lemmas.List.{take_all, take_more}
 use Rattle.std.proofs.lemmas.List.Elements.{All-push}
 use Rattle.std.proofs.lemmas.Option.{slice_get_within}
 use Rattle.rc_model.specs.Names.{Holds}
+use Rattle.rc_model.proofs.Members.{contains_at}
 use Rattle.rc_dbtext.specs.Parts.{IsNamed}
 use Rattle.rc_dbtext.proofs.Bundling.{members_back}
 use Rattle.rc_dbtext.proofs.Drafting.{named_one}
-use Rattle.rc_dbtext.proofs.Naming.{member_at}
 use Rattle.rc_dbtext.proofs.bundles.known_set.Goals as goal
 
 pub returns-in_default-clause-unknown : goal.returns-in_default-clause-unknown
@@ -41,7 +41,7 @@ loop-text-preserved c =
           c.insert.ensures.members);
       known = subst Known (sym more) (All-push (Contains c.args.names.now) front
           c.text-item.result c.loop-text.invariant.known
-          (member_at c.args.names.now c.in-Some.id c.text-item.result found));
+          (contains_at c.args.names.now c.in-Some.id c.text-item.result found));
     }
 
 -- all texts were passed

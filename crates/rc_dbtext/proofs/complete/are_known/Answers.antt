@@ -3,8 +3,8 @@ use Rattle.std.proofs.Common.{sym, ap, refl, Some, subst}
 use Rattle.std.proofs.lemmas.Bool.{false≢true}
 use Rattle.std.proofs.lemmas.List.{take_more, take_all}
 use Rattle.std.proofs.lemmas.List.Elements.{All-push}
+use Rattle.rc_model.proofs.Members.{contains_at}
 use Rattle.rc_dbtext.specs.Parts.{AreKnown, IsKnown}
-use Rattle.rc_dbtext.proofs.Naming.{member_at}
 use Rattle.rc_dbtext.proofs.complete.are_known.Goals as goal
 
 pub loop-text-init : goal.loop-text-init
@@ -28,7 +28,7 @@ loop-text-preserved c =
     let found = c.in-Some.ensures.found ∙ ap Some c.text.ensures.bytes in
     let P : List (List ℕ) → Type 0 = λ texts. All (Contains c.args.names.now) texts in
     subst P (sym more) (All-push (Contains c.args.names.now) front c.text-item.result
-    c.loop-text.invariant (member_at c.args.names.now c.in-Some.id c.text-item.result found))
+    c.loop-text.invariant (contains_at c.args.names.now c.in-Some.id c.text-item.result found))
 
 pub returns : goal.returns
 unfolding AreKnown IsKnown

@@ -1,6 +1,7 @@
 use Rattle.std.proofs.Common.{Some, inl, refl}
 use Rattle.rc_streams.specs.Noting.{HasFailed, inner_of}
-use Rattle.rc_dbtext.proofs.OpeningLemmas.{base_handed, base_opens, input_handed, no_value}
+use Rattle.rc_model.proofs.Results.{no_value}
+use Rattle.rc_dbtext.proofs.OpeningLemmas.{base_handed, base_opens, input_handed}
 use Rattle.rc_dbtext.proofs.OpeningLemmas.{read_handed, read_sound}
 use Rattle.rc_dbtext.proofs.opening.open_base.Goals as goal
 

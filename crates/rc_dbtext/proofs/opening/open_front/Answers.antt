@@ -1,7 +1,8 @@
 use Rattle.std.proofs.Common.{ℕ, List, None, inl, refl, subst}
 use Rattle.rc_dbtext.specs.TextFaults.{IsFrontFault}
 use Rattle.rc_streams.specs.Noting.{HasFailed, inner_of}
-use Rattle.rc_dbtext.proofs.OpeningLemmas.{front_opens, input_handed, no_value, read_handed}
+use Rattle.rc_model.proofs.Results.{no_value}
+use Rattle.rc_dbtext.proofs.OpeningLemmas.{front_opens, input_handed, read_handed}
 use Rattle.rc_dbtext.proofs.OpeningLemmas.{read_sound}
 use Rattle.rc_dbtext.proofs.opening.open_front.Goals as goal
 

@@ -46,19 +46,20 @@ entry_along-requires-clause-bound c =
 
 pub entry_along-requires-clause-room : goal.entry_along-requires-clause-room
 entry_along-requires-clause-room c =
-    let aim : c.opening.inside.aim ≡ aim_of c.args.ahead =
+    let aim : c.opening.inside.aim ≡ aim_of c.args.reached.ahead =
     ap (λ (o : Opening). o.aim) c.opening.view_is ∙ c.requires.aim in
     subst (λ (n : ℕ). AreRooms n c.opening.inside.far)
-    (rooms_by c.args.ahead _ (length c.opening.inside.live) aim).1 c.opening.invariant.1
+    (rooms_by c.args.reached.ahead _ (length c.opening.inside.live) aim).1 c.opening.invariant.1
 
 pub entry_along-requires-2-clause-room : goal.entry_along-requires-2-clause-room
 entry_along-requires-2-clause-room c =
     let bound : length c.opening.inside.live ≡ length c.args.live.now =
     ap (λ (o : Opening). length o.live) c.opening.view_is ∙ c.requires.target in
-    let aim : c.opening.inside.aim ≡ aim_of c.args.ahead =
+    let aim : c.opening.inside.aim ≡ aim_of c.args.reached.ahead =
     ap (λ (o : Opening). o.aim) c.opening.view_is ∙ c.requires.aim in
     subst (λ (n : ℕ). AreRooms n c.opening.inside.near)
-    ((rooms_by c.args.ahead _ (length c.opening.inside.live) aim).0 ∙ bound ∙ sym c.requires.end)
+    ((rooms_by c.args.reached.ahead _ (length c.opening.inside.live) aim).0 ∙ bound
+    ∙ sym c.requires.end)
     c.opening.invariant.0
 
 pub returns-then-same : goal.returns-then-same

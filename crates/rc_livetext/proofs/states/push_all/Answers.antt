@@ -3,9 +3,9 @@ use Rattle.std.specs.Prelude.{IsTrue}
 use Rattle.std.proofs.lemmas.Bool.{false≢true}
 use Rattle.std.proofs.lemmas.List.Elements.{All-append, All-cons, All-head, All-tail}
 use Rattle.std.proofs.lemmas.Result.{IfOk-weaker}
+use Rattle.rc_model.proofs.Lists.{all_front, all_back}
 use Rattle.rc_livetext.specs.Text.{IsStateText, LiveText, StateText}
 use Rattle.rc_livetext.specs.Meaning.{IsKnownState, all_states}
-use Rattle.rc_livetext.proofs.Texts.{front, rear}
 use Rattle.rc_livetext.proofs.states.push_all.Goals as goal
 
 pub push_states-requires-clause-text : goal.push_states-requires-clause-text
@@ -31,7 +31,7 @@ returns-then-not-branch-clause-known c =
     c.as_slice.ensures.value ∙ ap (λ (x : LiveText). x.before) c.form.view_is in (
       λ yes. absurd (false≢true yes),
       λ all. absurd (false≢true (sym c.if-not-branch.true ∙ c.in_ok-push_states.ensures.known.1
-          (subst (All Is) (sym before) (front Is t.before (t.current ∷ t.after) all)))),
+          (subst (All Is) (sym before) (all_front Is t.before (t.current ∷ t.after) all)))),
     )
 
 pub returns-then-not-branch-2-clause-known : goal.returns-then-not-branch-2-clause-known
@@ -43,7 +43,7 @@ returns-then-not-branch-2-clause-known c =
       λ yes. absurd (false≢true yes),
       λ all. absurd (false≢true (sym c.if-not-branch-2.true ∙ c.in_ok-push_state.ensures.known.1
           (subst Is (sym current) (All-head Is t.current t.after
-          (rear Is t.before (t.current ∷ t.after) all))))),
+          (all_back Is t.before (t.current ∷ t.after) all))))),
     )
 
 pub returns-clause-known : goal.returns-clause-known
@@ -65,5 +65,5 @@ returns-clause-known c =
           (subst Is current (c.in_ok-push_state.ensures.known.0 c.if-not-branch-2.false))
           (subst (All Is) after (here.0 yes))),
       λ all. here.1 (subst (All Is) (sym after) (All-tail Is t.current t.after
-          (rear Is t.before (t.current ∷ t.after) all))),
+          (all_back Is t.before (t.current ∷ t.after) all))),
     )) c.push_states-2.ensures.known

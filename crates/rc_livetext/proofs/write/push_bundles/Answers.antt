@@ -2,16 +2,16 @@ use Rattle.std.proofs.Common.{◌≡◌, ◌∙◌, ◌++◌, ℕ, List, Bool, l
 use Rattle.std.proofs.lemmas.List.{take_all}
 use Rattle.rc_model.proofs.Places.{take_next}
 use Rattle.rc_model.specs.Database.{Bundles}
+use Rattle.rc_model.proofs.Lists.{all_at, grown}
 use Rattle.rc_livetext.specs.Text.{OfBundle, spell}
 use Rattle.rc_dbtext.specs.Spelling.{bundle_text}
 use Rattle.rc_livetext.specs.Written.{bundle_bytes}
-use Rattle.rc_livetext.proofs.OneFault.{at_place}
-use Rattle.rc_livetext.proofs.Writing.{grown, bundles_push}
+use Rattle.rc_livetext.proofs.Writing.{bundles_push}
 use Rattle.rc_livetext.proofs.write.push_bundles.Goals as goal
 
 pub push_bundle-requires : goal.push_bundle-requires
 push_bundle-requires c =
-    at_place (λ (b : List ℕ × List Bool). length b.1 ≡ length c.args.names.now) c.args.table.now
+    all_at (λ (b : List ℕ × List Bool). length b.1 ≡ length c.args.names.now) c.args.table.now
     c.loop-place.place _ c.at.ensures c.requires
 
 pub loop-place-preserved : goal.loop-place-preserved

@@ -2,9 +2,9 @@ use Rattle.std.proofs.Common.{◌∙◌, [], ◌∷◌, ◌++◌, ℕ, List, ap,
 use Rattle.std.proofs.lemmas.List.{take_all}
 use Rattle.std.specs.Prelude.{codes}
 use Rattle.rc_model.proofs.Places.{take_next}
+use Rattle.rc_model.proofs.Lists.{one_more, grown}
 use Rattle.rc_dbtext.specs.Lines.{words_after_spaces}
 use Rattle.rc_dbtext.proofs.LineLemmas.{line_of}
-use Rattle.rc_livetext.proofs.Writing.{grown, one_more}
 use Rattle.rc_livetext.proofs.write.push_services.Goals as goal
 
 pub loop-id-preserved : goal.loop-id-preserved

@@ -1,17 +1,17 @@
 use Rattle.std.proofs.Common.{◌∙◌, ◌+◌, ◌==◌, ◌++◌, ℕ, List, length, take, ap, sym, arith}
 use Rattle.rc_model.specs.Line.{State, states, cursor}
+use Rattle.rc_model.proofs.Lists.{all_at, grown}
 use Rattle.rc_dbtext.specs.Form.{spells}
 use Rattle.rc_livetext.specs.Text.{spell, state_lines}
 use Rattle.rc_livetext.specs.Spelling.{state_text}
 use Rattle.rc_livetext.specs.Written.{state_bytes}
 use Rattle.rc_livetext.specs.Parts.{IsWithin}
-use Rattle.rc_livetext.proofs.OneFault.{at_place}
-use Rattle.rc_livetext.proofs.Writing.{grown, states_first, states_next, states_all}
+use Rattle.rc_livetext.proofs.Writing.{states_first, states_next, states_all}
 use Rattle.rc_livetext.proofs.write.push_states.Goals as goal
 
 pub push_state-requires : goal.push_state-requires
 push_state-requires c =
-    at_place (IsWithin (length c.args.names.now)) (states c.args.line.now.line) 0 _ c.requires.first
+    all_at (IsWithin (length c.args.names.now)) (states c.args.line.now.line) 0 _ c.requires.first
     c.requires.sets
 
 pub step_on-requires-clause-place : goal.step_on-requires-clause-place
@@ -22,7 +22,7 @@ step_on-requires-clause-here c = c.loop-place.invariant.here
 
 pub push_state-requires-in-loop-place : goal.push_state-requires-in-loop-place
 push_state-requires-in-loop-place c =
-    at_place (IsWithin (length c.args.names.now)) (states c.args.line.now.line)
+    all_at (IsWithin (length c.args.names.now)) (states c.args.line.now.line)
     (c.loop-place.place + 1) _ c.in_ok-step_on.ensures.next c.requires.sets
 
 pub loop-place-init : goal.loop-place-init

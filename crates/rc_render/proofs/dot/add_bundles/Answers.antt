@@ -2,10 +2,9 @@ use Rattle.std.proofs.Common.{◌∙◌, ◌++◌, ℕ, List, false, ap, take, a
 use Rattle.std.specs.List.{flat_map}
 use Rattle.rc_model.specs.declared.Kind.TheVariants.{Bundle}
 use Rattle.rc_model.proofs.Places.{take_next}
+use Rattle.rc_model.proofs.Lists.{one_more, grown}
 use Rattle.rc_render.specs.DotText.{bundle_lines, edge_lines, look, member_end, node_line}
 use Rattle.rc_render.specs.Names.{names_in}
-use Rattle.rc_render.proofs.JournalLemmas.{grown_behind}
-use Rattle.rc_render.proofs.LineLemmas.{one_more}
 use Rattle.rc_render.proofs.dot.add_bundles.Goals as goal
 
 pub loop-place-preserved : goal.loop-place-preserved
@@ -14,7 +13,7 @@ loop-place-preserved c =
     let name = c.at.result.0.now in
     let set = c.at.result.1.now in
     let edges = edge_lines member_end name (names_in c.args.names.now set) in
-    grown_behind c.add_members.new.text.items c.loop-place.text.items c.args.text.now.items
+    grown c.add_members.new.text.items c.loop-place.text.items c.args.text.now.items
     (flat_map lines (take c.loop-place.place c.args.table.now)) _ (lines (name, set))
     (c.in_ok-add_members.ensures
     ∙ (ap (λ (t : List ℕ). t ++ edges) c.in_ok-add_node.ensures

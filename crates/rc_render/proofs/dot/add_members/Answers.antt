@@ -1,10 +1,9 @@
 use Rattle.std.proofs.Common.{◌≡◌, ◌∙◌, ◌<◌, ◌++◌, ℕ, List, length, ap, sym, take, false, true}
 use Rattle.std.proofs.Common.{arith}
 use Rattle.std.specs.List.{flat_map}
+use Rattle.rc_model.proofs.Lists.{one_more, grown}
 use Rattle.rc_render.specs.DotText.{edge_line, edge_lines, member_end}
 use Rattle.rc_render.specs.Names.{names_in}
-use Rattle.rc_render.proofs.JournalLemmas.{grown_behind}
-use Rattle.rc_render.proofs.LineLemmas.{one_more}
 use Rattle.rc_render.proofs.NameLemmas.{names_in_has, names_in_lacks, names_in_all}
 use Rattle.rc_render.proofs.dot.add_members.Goals as goal
 use Rattle.rc_render.proofs.dot.add_members.Goals.{then-contains+in_ok-add_edge, else-contains}
@@ -19,7 +18,7 @@ loop-id-preserved c =
     let within : c.loop-id.id < length c.args.set.now = omega arith in
     elim c.if-contains.branch [
       | then-contains+in_ok-add_edge w ↦ rw w.text-is (
-          grown_behind w.add_edge.new.text.items c.loop-id.text.items c.args.text.now.items
+          grown w.add_edge.new.text.items c.loop-id.text.items c.args.text.now.items
           (flat_map edge (names_in (take i names) (take i set))) _ (edge w.name_of.result.now)
           w.in_ok-add_edge.ensures c.loop-id.invariant
           (ap (flat_map edge)

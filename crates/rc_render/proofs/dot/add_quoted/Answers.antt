@@ -3,9 +3,8 @@ use Rattle.std.proofs.Common.{OnOk, if◌then◌else◌, length, get_or, take, a
 use Rattle.std.proofs.lemmas.List.{take_all, take_more}
 use Rattle.std.specs.List.{flat_map}
 use Rattle.std.specs.Result.{is_ok}
+use Rattle.rc_model.proofs.Lists.{one_more, grown}
 use Rattle.rc_render.specs.DotText.{in_quotes, quoted_byte}
-use Rattle.rc_render.proofs.JournalLemmas.{grown_behind}
-use Rattle.rc_render.proofs.LineLemmas.{one_more}
 use Rattle.rc_render.proofs.dot.add_quoted.Goals as goal
 
 -- a text that grew to a whole one, if it did
@@ -22,7 +21,7 @@ loop-byte-preserved c =
     c.as_bytes-byte-items.ensures.value ∙ c.text.ensures.bytes in
     let within : i < length name =
     subst (λ (bytes : List ℕ). i < length bytes) is c.loop-byte-test.true in
-    grown_behind c.add_byte.new.text.items c.loop-byte.text.items c.args.text.now.items
+    grown c.add_byte.new.text.items c.loop-byte.text.items c.args.text.now.items
     (34 ∷ flat_map quoted_byte (take i name)) (34 ∷ flat_map quoted_byte (take (i + 1) name))
     (quoted_byte (get_or name i 0))
     (c.in_ok-add_byte.ensures

@@ -1,7 +1,8 @@
 use Rattle.std.proofs.Common.{◌∙◌, ◌<◌, ◌≤◌, ◌++◌, ℕ, List, ap, take, length, slice_index_or}
 use Rattle.std.proofs.Common.{false, arith}
+use Rattle.rc_model.proofs.Lists.{grown}
 use Rattle.rc_render.specs.JournalText.{sign, signs}
-use Rattle.rc_render.proofs.JournalLemmas.{grown_behind, is_set_by, signs_all, signs_more}
+use Rattle.rc_render.proofs.JournalLemmas.{is_set_by, signs_all, signs_more}
 use Rattle.rc_render.proofs.journal.add_signs.Goals as goal
 
 pub loop-id-preserved : goal.loop-id-preserved
@@ -9,7 +10,7 @@ loop-id-preserved c = λ from to moves.
     let i = c.loop-id.id in
     let low : i < length from = omega (arith, moves.before, c.requires.up) in
     let within : i < length to = omega (arith, moves.after, c.requires.up) in
-    grown_behind c.add_sign.new.text.items c.loop-id.text.items c.args.text.now.items
+    grown c.add_sign.new.text.items c.loop-id.text.items c.args.text.now.items
     (signs (take i c.args.names.now) (take i from) (take i to)) _
     (sign c.name_of.result.now (slice_index_or from i false) (slice_index_or to i false))
     (c.in_ok-add_sign.ensures (slice_index_or from i false) (slice_index_or to i false)

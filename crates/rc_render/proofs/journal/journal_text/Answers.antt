@@ -6,8 +6,9 @@ use Rattle.rc_model.proofs.Places.{take_next}
 use Rattle.rc_model.specs.Database.{Database}
 use Rattle.rc_model.specs.Line.{State, Entry, IsEntry, states}
 use Rattle.rc_model.specs.Session.{IsStateOf}
+use Rattle.rc_model.proofs.Lists.{grown}
 use Rattle.rc_render.specs.JournalText.{AreEntryLines, IsEntryLine, IsEntryBelow, place_line}
-use Rattle.rc_render.proofs.JournalLemmas.{grown_behind, one_more_entry}
+use Rattle.rc_render.proofs.JournalLemmas.{one_more_entry}
 use Rattle.rc_render.proofs.journal.journal_text.Goals as goal
 
 -- what stands at a place is such
@@ -73,7 +74,7 @@ loop-place-preserved c =
           (subst (λ (xs : List State). AreEntryLines names 0 xs entries)
           (take_next all i a at_a) lines)
           (subst (λ (n : ℕ). IsEntryLine names n a b text) place named)),
-      grown_behind c.extend_from_slice.new.self.items c.loop-place.text.items
+      grown c.extend_from_slice.new.self.items c.loop-place.text.items
           (place_line c.args.line.now.line) entries (entries ++ text) c.deref.result.now
           c.in_ok-extend_from_slice.ensures.items whole
           (ap (λ (t : List ℕ). entries ++ t) (sym c.deref.ensures.value)),

@@ -1,7 +1,7 @@
 use Rattle.std.proofs.Common.{◌∙◌, ◌++◌, ℕ, List, ap, sym, take}
 use Rattle.std.specs.List.{flat_map}
 use Rattle.rc_model.proofs.Places.{take_next}
-use Rattle.rc_render.proofs.LineLemmas.{one_more}
+use Rattle.rc_model.proofs.Lists.{one_more}
 use Rattle.rc_render.specs.Names.{bundle_line}
 use Rattle.rc_render.proofs.stand.bundles_text.Goals as goal
 

@@ -1,7 +1,7 @@
 use Rattle.std.proofs.Common.{◌≡◌, ◌∙◌, ◌<◌, [], ◌∷◌, ◌++◌, ℕ, List, length, ap, sym, take, false}
 use Rattle.std.proofs.Common.{true, arith}
 use Rattle.std.specs.List.{flat_map}
-use Rattle.rc_render.proofs.LineLemmas.{one_more}
+use Rattle.rc_model.proofs.Lists.{one_more}
 use Rattle.rc_render.specs.Names.{names_in}
 use Rattle.rc_render.proofs.NameLemmas.{grown, ended, names_in_has, names_in_lacks, names_in_all}
 use Rattle.rc_render.proofs.told.add_set_line.Goals as goal

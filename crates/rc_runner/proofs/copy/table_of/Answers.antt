@@ -1,8 +1,9 @@
-use Rattle.std.proofs.Common.{◌≡◌, ◌∙◌, ◌+◌, ◌++◌, ◌∷◌, [], List, ℕ, All, Some, ap, slice_get}
+use Rattle.std.proofs.Common.{◌≡◌, ◌∙◌, ◌++◌, ◌∷◌, [], List, ℕ, All, Some, ap, slice_get}
 use Rattle.std.proofs.Common.{subst}
 use Rattle.std.proofs.Common.{sym}
 use Rattle.rc_model.specs.Names.{IsBefore}
-use Rattle.rc_runner.proofs.Copies.{before_next, copied_next}
+use Rattle.rc_model.proofs.Places.{take_next}
+use Rattle.rc_runner.proofs.Copies.{before_next}
 use Rattle.rc_runner.proofs.copy.table_of.Goals as goal
 
 pub append-requires-clause-last : goal.append-requires-clause-last
@@ -18,4 +19,4 @@ loop-id-preserved c =
     c.name_of.ensures ∙ ap (λ (n : List ℕ). Some n) (sym c.in_ok-copy.ensures) in
     c.in_ok-append.ensures.added
     ∙ ap (λ (ns : List (List ℕ)). ns ++ c.in_ok-copy.field-0 ∷ []) c.loop-id.invariant
-    ∙ sym (copied_next c.args.names.now c.loop-id.id c.in_ok-copy.field-0 there)
+    ∙ sym (take_next c.args.names.now c.loop-id.id c.in_ok-copy.field-0 there)

@@ -1,7 +1,8 @@
 use Rattle.std.proofs.Common.{◌+◌, ◌∙◌, ◌<◌, ◌≤◌, ℕ, ap, length, sym, true≢false, arith}
 use Rattle.rc_model.specs.Names.{Has, Holds}
 use Rattle.rc_model.specs.Plan.{IsEssentialUp}
-use Rattle.rc_select.proofs.PassingLemmas.{put_in, left_out, passed_to, passed_all}
+use Rattle.rc_db.proofs.Pipelines.{left_out}
+use Rattle.rc_select.proofs.PassingLemmas.{put_in, passed_to, passed_all}
 use Rattle.rc_select.proofs.select.essential_up.Goals as goal
 use Rattle.rc_select.proofs.select.essential_up.Goals.{then-is_essential, else-is_essential}
 

@@ -1,6 +1,7 @@
 use Rattle.std.proofs.Common.{◌∙◌, ap}
 use Rattle.rc_model.specs.Database.{Database}
-use Rattle.rc_serve.proofs.WaysShown.{current_fits, placed_fits, planned_to}
+use Rattle.rc_session.proofs.States.{current_fits}
+use Rattle.rc_serve.proofs.WaysShown.{placed_fits, planned_to}
 use Rattle.rc_serve.proofs.ways.plan_to.Goals as goal
 
 pub between-plan-requires-clause-from_bound : goal.between-plan-requires-clause-from_bound

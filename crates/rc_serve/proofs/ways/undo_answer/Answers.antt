@@ -1,11 +1,12 @@
 use Rattle.std.proofs.Common.{◌≡◌, ◌≢◌, ◌∙◌, ◌-◌, ℕ, [], ap, arith}
 use Rattle.std.specs.Global.{Vec}
+use Rattle.std.proofs.lemmas.List.{nil_from_length}
 use Rattle.rc_model.specs.Names.{Has}
 use Rattle.rc_model.specs.Database.{Database}
 use Rattle.rc_model.specs.Line.{IsEntryAt, cursor}
 use Rattle.rc_model.specs.Session.{Undo}
 use Rattle.rc_model.specs.declared.Refusal.TheVariants.{NothingToUndo}
-use Rattle.rc_serve.proofs.WaysShown.{none_before, opens, refused_way, shown_way, undo_task}
+use Rattle.rc_serve.proofs.WaysShown.{opens, refused_way, shown_way, undo_task}
 use Rattle.rc_serve.proofs.ways.undo_answer.Goals as goal
 
 pub returns-then-cursor-eq0 : goal.returns-then-cursor-eq0
@@ -15,7 +16,7 @@ returns-then-cursor-eq0 c =
     refused_way c.args.session.now.database c.args.session.now.line (Undo 0 []) NothingToUndo
     c.refused.result c.refused.ensures.ending
     (ap (λ (t : Vec ℕ). t.items) c.refused.ensures.text ∙ c.in_ok-refusal_text.ensures)
-    (none_before c.args.session.now.line.before (omega (arith, here)))
+    (nil_from_length c.args.session.now.line.before (omega (arith, here)))
 
 pub planned-requires : goal.planned-requires
 planned-requires c =

@@ -1,8 +1,9 @@
 use Rattle.std.proofs.Common.{Contains, map, codes, ap, string_bytes}
+use Rattle.rc_model.proofs.Results.{no_value}
 use Rattle.rc_source.specs.Tree.{file_at}
 use Rattle.rc_source.specs.Meaning.{given_in}
 use Rattle.rc_source.proofs.Asking.{asked_memory, asked_ok, asked_on}
-use Rattle.rc_source.proofs.Exits.{exit, exit_memory, no_success, no_value}
+use Rattle.rc_source.proofs.Exits.{exit, exit_memory, no_success}
 use Rattle.rc_source.proofs.Folders.{lists_one}
 use Rattle.rc_source.proofs.entry.consumer_for_at.Goals as goal
 

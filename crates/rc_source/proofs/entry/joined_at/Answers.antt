@@ -1,9 +1,10 @@
 use Rattle.std.proofs.Common.{◌≡◌, ◌∙◌, inl, inr, false, Contains, map, ap, string_bytes}
+use Rattle.rc_model.proofs.Results.{no_value}
 use Rattle.rc_source.specs.Tree.{file_at, names_next}
 use Rattle.rc_source.specs.Kinds.{Names, NameEach, is_hidden}
 use Rattle.rc_source.specs.Meaning.{given_in}
 use Rattle.rc_source.proofs.Asking.{asked_memory, asked_ok, asked_on, asked_then}
-use Rattle.rc_source.proofs.Exits.{exit, exit_memory, no_success, no_value}
+use Rattle.rc_source.proofs.Exits.{exit, exit_memory, no_success}
 use Rattle.rc_source.proofs.EntryFiles.{two_pass}
 use Rattle.rc_source.proofs.Folders.{lists_both}
 use Rattle.rc_source.proofs.entry.joined_at.Goals as goal

@@ -1,6 +1,7 @@
 use Rattle.std.proofs.Common.{◌∙◌}
+use Rattle.rc_model.proofs.Results.{no_value}
 use Rattle.rc_source.proofs.Asking.{asked_ok, asked_on, asked_then}
-use Rattle.rc_source.proofs.Exits.{exit, no_success, no_value}
+use Rattle.rc_source.proofs.Exits.{exit, no_success}
 use Rattle.rc_source.proofs.EntryFiles.{service_passes, stops_in_limits, stops_at_flag}
 use Rattle.rc_source.proofs.EntryFiles.{stops_in_needs, stops_in_pipes}
 use Rattle.rc_source.proofs.entry.service_at.Goals as goal

@@ -1,7 +1,8 @@
 use Rattle.std.proofs.Common.{◌≤◌, ◌∙◌, Some, inl, inr, refl, sym, ap, subst, arith, vec_len}
 use Rattle.std.specs.Option.{IfSome, option_map}
+use Rattle.rc_model.proofs.Results.{no_value}
 use Rattle.rc_source.specs.Texts.{IsScriptText}
-use Rattle.rc_source.proofs.Exits.{exit, no_value}
+use Rattle.rc_source.proofs.Exits.{exit}
 use Rattle.rc_source.proofs.file.text_at.Goals as goal
 
 pub returns-in_err-text_of-in-Ok-Some-clause-fault :

@@ -2,8 +2,9 @@ use Rattle.std.proofs.Common.{◌∙◌, ◌≤◌, ℕ, List, All, map, sym, su
 use Rattle.std.proofs.lemmas.List.{length-map, take_all}
 use Rattle.std.proofs.lemmas.List.Elements.{All-nil, All-push}
 use Rattle.rc_model.specs.Names.{IsName}
+use Rattle.rc_model.proofs.Results.{no_value}
 use Rattle.rc_source.specs.declared.fault.Flaw.TheVariants.{Memory}
-use Rattle.rc_source.proofs.Exits.{exit, exit_memory, no_value}
+use Rattle.rc_source.proofs.Exits.{exit, exit_memory}
 use Rattle.rc_source.proofs.Folders.{is_shown, push_shown}
 use Rattle.rc_source.proofs.folder.names_from.Goals as goal
 

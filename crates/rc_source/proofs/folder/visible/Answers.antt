@@ -2,8 +2,9 @@ use Rattle.std.proofs.Common.{◌≡◌, ◌↔◌, ◌⊎◌, ℕ, List, false,
 use Rattle.std.proofs.Common.{string_bytes}
 use Rattle.std.proofs.lemmas.List.{take_all, length-map}
 use Rattle.std.proofs.lemmas.Result.{IfOk-weaker}
+use Rattle.rc_model.proofs.Mapped.{mapped_next}
 use Rattle.rc_source.specs.Kinds.{is_hidden}
-use Rattle.rc_source.proofs.Folders.{shown_more, seen_more}
+use Rattle.rc_source.proofs.Folders.{seen_more}
 use Rattle.rc_source.proofs.folder.visible.Goals as goal
 
 pub loop-name-preserved : goal.loop-name-preserved
@@ -12,7 +13,7 @@ loop-name-preserved c =
     let new = map string_bytes c.add_visible.new.seen.keys in
     seen_more mid new (map string_bytes c.args.names.now) c.loop-name.name-index
     (string_bytes c.name-item.result)
-    (shown_more string_bytes c.args.names.now c.loop-name.name-index c.name-item.result
+    (mapped_next string_bytes c.args.names.now c.loop-name.name-index c.name-item.result
     c.loop-name-test.true c.name-item.is) c.loop-name.invariant
     (subst (λ name. (text : List ℕ)
     → Contains new text ↔ (Contains mid text ⊎ ((text ≡ name) × (is_hidden name ≡ false))))

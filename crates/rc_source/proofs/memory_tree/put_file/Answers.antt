@@ -1,4 +1,4 @@
-use Rattle.std.proofs.Common.{◌≡◌, ◌∙◌, ⊎_elim, inl, ℕ, List, false, Contains, map, sym, ap, subst}
+use Rattle.std.proofs.Common.{◌≡◌, ◌∙◌, false, Contains, map, sym, ap, subst}
 use Rattle.std.proofs.Common.{string_bytes}
 use Rattle.std.specs.BTreeMap.{is_at}
 use Rattle.std.specs.BTreeSet.{insert_key}
@@ -7,22 +7,16 @@ use Rattle.std.specs.Cmp.Lexicographic.{slice_cmp}
 use Rattle.std.specs.List.{list_any}
 use Rattle.std.specs.Ordering.{nat_cmp, is_eq}
 use Rattle.rc_names.specs.Names.{Adds}
+use Rattle.rc_names.proofs.Growth.{adds_none}
 use Rattle.rc_source.specs.Tree.{IsPutAt}
 use Rattle.rc_source.specs.Shown.{shown_files}
 use Rattle.rc_source.proofs.TextSets.{Adds-insert_key, Contains-from_any, IsPutAt-insert_entry}
 use Rattle.rc_source.proofs.TextSets.{remove_key-insert_key, by_bytes}
 use Rattle.rc_source.proofs.memory_tree.put_file.Goals as goal
 
--- a text that is there already adds nothing
-adds_present : (old : List (List ℕ)) (name : List ℕ) → Contains old name → Adds old name old
-adds_present old name there text = (
-  λ at. inl at,
-  λ either. ⊎_elim (λ at. at) (λ here. subst (Contains old) (sym here) there) either,
-)
-
 pub returns-then-contains-clause-entries : goal.returns-then-contains-clause-entries
 returns-then-contains-clause-entries c =
-    adds_present (map string_bytes c.args.entries.now.keys) (string_bytes c.args.service)
+    adds_none (map string_bytes c.args.entries.now.keys) (string_bytes c.args.service)
     (subst (Contains (map string_bytes c.args.entries.now.keys)) c.as_str.ensures.value
     (Contains-from_any string_bytes c.args.entries.now.keys c.as_str.result.now
     (sym c.contains.ensures ∙ c.if-contains.true)))

@@ -1,6 +1,7 @@
 use Rattle.std.proofs.Common.{◌∙◌, sym, subst, inl, inr, refl, true≢false}
 use Rattle.rc_model.specs.Names.{IsName}
-use Rattle.rc_source.proofs.Exits.{exit, no_value, no_success}
+use Rattle.rc_model.proofs.Results.{no_value}
+use Rattle.rc_source.proofs.Exits.{exit, no_success}
 use Rattle.rc_source.proofs.read.new_name.Goals as goal
 
 pub returns-in_err-name-clause-fault : goal.returns-in_err-name-clause-fault

@@ -4,9 +4,10 @@ use Rattle.std.specs.List.{slice_split}
 use Rattle.std.proofs.lemmas.List.{take_all}
 use Rattle.std.proofs.lemmas.List.Elements.{All-append, All-nil}
 use Rattle.rc_model.specs.Names.{IsName}
+use Rattle.rc_model.proofs.Results.{no_value}
 use Rattle.rc_source.specs.Texts.{counts, trimmed_line}
 use Rattle.rc_source.specs.declared.fault.Flaw.TheVariants.{Memory}
-use Rattle.rc_source.proofs.Exits.{exit, exit_memory, no_value, no_success}
+use Rattle.rc_source.proofs.Exits.{exit, exit_memory, no_success}
 use Rattle.rc_source.proofs.Lines.{named, named_more, one_of_all}
 use Rattle.rc_source.proofs.text.names_of.Goals as goal
 

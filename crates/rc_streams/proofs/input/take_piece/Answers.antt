@@ -1,8 +1,9 @@
 use Rattle.std.proofs.Common.{ℕ, inl, inr, refl}
 use Rattle.std.proofs.lemmas.List.{length-replicate}
+use Rattle.std.proofs.lemmas.Result.{IfOk-from_err}
 use Rattle.rc_streams.proofs.InputLemmas.{ConsumesAtMost-none, ConsumesAtMost-read}
 use Rattle.rc_streams.proofs.Pieces.{as_read, by_memory, by_read, count_given, moves_read}
-use Rattle.rc_streams.proofs.Pieces.{no_success, no_value, read_part, read_within, room_given}
+use Rattle.rc_streams.proofs.Pieces.{read_part, read_within, room_given}
 use Rattle.rc_streams.proofs.Pieces.{room_low, room_part, room_some}
 use Rattle.rc_streams.proofs.input.take_piece.Goals as goal
 
@@ -14,16 +15,16 @@ slice_bounds-read_some-end g c =
     room_part _ _ _ c.min-most.ensures (length-replicate {A = ℕ} 8192 0)
 
 pub returns-in_err-count-clause-moved : goal.returns-in_err-count-clause-moved
-returns-in_err-count-clause-moved g c = no_value _ _ c.from_residual.ensures.0
+returns-in_err-count-clause-moved g c = IfOk-from_err _ _ c.from_residual.ensures.0
 
 pub returns-in_err-count-clause-fits : goal.returns-in_err-count-clause-fits
-returns-in_err-count-clause-fits g c = no_value _ _ c.from_residual.ensures.0
+returns-in_err-count-clause-fits g c = IfOk-from_err _ _ c.from_residual.ensures.0
 
 pub returns-in_err-count-clause-end : goal.returns-in_err-count-clause-end
-returns-in_err-count-clause-end g c = no_value _ _ c.from_residual.ensures.0
+returns-in_err-count-clause-end g c = IfOk-from_err _ _ c.from_residual.ensures.0
 
 pub returns-in_err-count-clause-sound : goal.returns-in_err-count-clause-sound
-returns-in_err-count-clause-sound g c = no_success _ _ c.from_residual.ensures.0
+returns-in_err-count-clause-sound g c = IfOk-from_err _ _ c.from_residual.ensures.0
 
 pub returns-in_err-count-clause-fault : goal.returns-in_err-count-clause-fault
 returns-in_err-count-clause-fault g c =
@@ -46,20 +47,20 @@ slice_bounds-extend_from_slice-end g c = read_part _ _ _ c.in_ok-count.ensures.b
 pub returns-in_err-extend_from_slice-clause-moved :
     goal.returns-in_err-extend_from_slice-clause-moved
 returns-in_err-extend_from_slice-clause-moved g c =
-    no_value _ _ c.from_residual-in_err-extend_from_slice.ensures.0
+    IfOk-from_err _ _ c.from_residual-in_err-extend_from_slice.ensures.0
 
 pub returns-in_err-extend_from_slice-clause-fits : goal.returns-in_err-extend_from_slice-clause-fits
 returns-in_err-extend_from_slice-clause-fits g c =
-    no_value _ _ c.from_residual-in_err-extend_from_slice.ensures.0
+    IfOk-from_err _ _ c.from_residual-in_err-extend_from_slice.ensures.0
 
 pub returns-in_err-extend_from_slice-clause-end : goal.returns-in_err-extend_from_slice-clause-end
 returns-in_err-extend_from_slice-clause-end g c =
-    no_value _ _ c.from_residual-in_err-extend_from_slice.ensures.0
+    IfOk-from_err _ _ c.from_residual-in_err-extend_from_slice.ensures.0
 
 pub returns-in_err-extend_from_slice-clause-sound :
     goal.returns-in_err-extend_from_slice-clause-sound
 returns-in_err-extend_from_slice-clause-sound g c =
-    no_success _ _ c.from_residual-in_err-extend_from_slice.ensures.0
+    IfOk-from_err _ _ c.from_residual-in_err-extend_from_slice.ensures.0
 
 pub returns-in_err-extend_from_slice-clause-fault :
     goal.returns-in_err-extend_from_slice-clause-fault

@@ -1,10 +1,10 @@
 use Rattle.std.proofs.Common.{◌≡◌, ◌∙◌, inl, ℕ, ap, length, sym, true≢false, arith}
 use Rattle.rc_model.specs.Names.{Has}
 use Rattle.rc_model.proofs.SetMembers.{has_within}
-use Rattle.rc_db.proofs.Pipelines.{all_passed}
+use Rattle.rc_db.proofs.Pipelines.{all_passed, left_out}
 use Rattle.rc_update.specs.Carrying.{IsAlteredUp, IsUnaltered}
 use Rattle.rc_update.specs.Conversions.{conversions_of}
-use Rattle.rc_update.proofs.PassingLemmas.{add_more, left_out, spared_next}
+use Rattle.rc_update.proofs.PassingLemmas.{add_more, spared_next}
 use Rattle.rc_update.proofs.carrying.altered.Goals as goal
 use Rattle.rc_update.proofs.carrying.altered.Goals.{then-contains+in_ok-add_altered, else-contains}
 

@@ -1,6 +1,7 @@
-use Rattle.std.proofs.Common.{◌≡◌, ◌∙◌, List, ℕ, ap, map, string_bytes}
+use Rattle.std.proofs.Common.{◌∙◌, ap, map, string_bytes}
 use Rattle.rc_model.specs.Database.{Database}
-use Rattle.rc_cli.proofs.ShowingLemmas.{left_fits, live_fits, plans_back}
+use Rattle.rc_session.proofs.States.{current_fits}
+use Rattle.rc_cli.proofs.ShowingLemmas.{left_fits, plans_back}
 use Rattle.rc_cli.proofs.sessions.showing.plan_back.Goals as goal
 
 pub between-back-requires-clause-from_bound : goal.between-back-requires-clause-from_bound
@@ -15,7 +16,7 @@ between-back-requires-clause-from_bound c =
 
 pub between-back-requires-clause-to_bound : goal.between-back-requires-clause-to_bound
 between-back-requires-clause-to_bound c =
-    (live_fits c.args.session.now.database c.args.session.now.line c.graph.result.now
+    (current_fits c.args.session.now.database c.args.session.now.line c.graph.result.now
     c.live-2.result.now c.db.ensures.database c.journal-states.ensures.states
     (c.graph.ensures.graph ∙ ap (λ (held : Database). held.needs) c.db-2.ensures.db)
     c.live-2.ensures).0
@@ -32,7 +33,7 @@ between-back-requires-clause-from_closed c =
 
 pub between-back-requires-clause-to_closed : goal.between-back-requires-clause-to_closed
 between-back-requires-clause-to_closed c =
-    (live_fits c.args.session.now.database c.args.session.now.line c.graph.result.now
+    (current_fits c.args.session.now.database c.args.session.now.line c.graph.result.now
     c.live-2.result.now c.db.ensures.database c.journal-states.ensures.states
     (c.graph.ensures.graph ∙ ap (λ (held : Database). held.needs) c.db-2.ensures.db)
     c.live-2.ensures).1

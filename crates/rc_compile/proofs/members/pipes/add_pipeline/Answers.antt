@@ -2,7 +2,7 @@ use Rattle.std.proofs.Common.{◌≡◌, ◌∙◌, ◌↔◌, inl, inr, ℕ, Li
 use Rattle.std.proofs.Common.{subst, arith}
 use Rattle.std.proofs.lemmas.Option.{slice_get_within}
 use Rattle.rc_model.specs.Graph.{UpFrom}
-use Rattle.rc_model.proofs.BundleOrders.{contains_at}
+use Rattle.rc_model.proofs.Members.{contains_at}
 use Rattle.rc_compile.specs.Joining.{AllWithin}
 use Rattle.rc_compile.specs.Rows.{rows}
 use Rattle.rc_compile.specs.Sets.{IsPipedBy}

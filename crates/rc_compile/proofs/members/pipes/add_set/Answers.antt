@@ -3,7 +3,7 @@ use Rattle.std.proofs.Common.{slice_get, sym, ap, subst, arith}
 use Rattle.std.proofs.lemmas.List.{get_or_default}
 use Rattle.std.proofs.lemmas.Option.{slice_get_within}
 use Rattle.rc_model.specs.Names.{Has, Holds}
-use Rattle.rc_model.proofs.BundleOrders.{contains_at}
+use Rattle.rc_model.proofs.Members.{contains_at}
 use Rattle.rc_compile.proofs.SetLists.{join_at, gain_none}
 use Rattle.rc_compile.proofs.members.pipes.add_set.Goals as goal
 

@@ -1,8 +1,8 @@
 use Rattle.std.proofs.Common.{◌≡◌, ◌∙◌, ◌<◌, [], length, slice_index_or, sym, arith}
+use Rattle.std.proofs.lemmas.List.{nil_from_length}
 use Rattle.rc_compile.specs.Rows.{rows}
 use Rattle.rc_compile.proofs.RowLemmas.{length-rows, row_is, row_needs, row_known}
 use Rattle.rc_compile.proofs.Walks.{walk_begins, walk_follows, walk_ends, followed_within}
-use Rattle.rc_compile.proofs.Walks.{none_left}
 use Rattle.rc_compile.proofs.members.walk.reached.Goals as goal
 
 pub loop-at-init : goal.loop-at-init
@@ -43,4 +43,4 @@ loop-at-preserved c =
 pub returns-clause-members : goal.returns-clause-members
 returns-clause-members c =
     walk_ends (rows c.args.lists.now) c.args.start _ _ c.loop-at.invariant
-    (none_left _ (omega (arith, c.in_default.ensures.cases.0, c.loop-at.walk.todo.ok.0)))
+    (nil_from_length _ (omega (arith, c.in_default.ensures.cases.0, c.loop-at.walk.todo.ok.0)))

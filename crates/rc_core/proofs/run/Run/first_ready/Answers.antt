@@ -1,6 +1,6 @@
 use Rattle.std.proofs.Common.{ℕ, List, Contains, Option, Some, None, IfSome, IfNone, subst}
-use Rattle.rc_graph.proofs.PairLemmas.{no_member}
 use Rattle.rc_model.specs.Run.{CanMove}
+use Rattle.rc_model.proofs.Members.{none_contained}
 use Rattle.rc_core.specs.Settled.{RunSoFar}
 use Rattle.rc_core.proofs.Readying.{ready_moves}
 use Rattle.rc_core.proofs.run.Run.first_ready.Goals as goal
@@ -29,7 +29,7 @@ returns-clause-none c =
     c.self.view_is
     (none_weaker c.first.result _ _
     (λ empty s move.
-    no_member s
+    none_contained s
     (subst (λ (queue : List ℕ). Contains queue s) empty
     ((ready_moves _ _ _ _ c.self.invariant.0.course c.self.invariant.0.run c.self.invariant.3
     s).1 move))) c.first.ensures.none)

@@ -2,10 +2,12 @@ use Rattle.std.proofs.Common.{◌≡◌, ◌<◌, length, map, Contains, refl, s
 use Rattle.std.proofs.lemmas.Bool.{false≢true}
 use Rattle.std.specs.String.{string_bytes}
 use Rattle.std.specs.HashMap.{keys, values}
+use Rattle.std.proofs.lemmas.Result.{IfOk-from_err}
 use Rattle.rc_names.proofs.Inserting.{names_after, IsSorted-from_order, HasGrown}
-use Rattle.rc_names.proofs.Adding.{is_there, is_absent, adds_none, as_long, no_value, no_success}
+use Rattle.rc_names.proofs.Adding.{is_there, is_absent, as_long}
 use Rattle.rc_names.proofs.Adding.{on_refusal, shown_still, same_still}
 use Rattle.rc_model.specs.Names.{IsInByteOrder, AreNames}
+use Rattle.rc_names.proofs.Growth.{adds_none}
 use Rattle.rc_names.proofs.names.Names.add.Goals as goal
 
 -- what the table shows once the name is in
@@ -68,13 +70,13 @@ pub returns-then-is_some-clause-present : goal.returns-then-is_some-clause-prese
 returns-then-is_some-clause-present c = λ _. (refl, refl)
 
 pub returns-in_err-key-clause-added : goal.returns-in_err-key-clause-added
-returns-in_err-key-clause-added c = no_value _ _ c.from_residual.ensures.0
+returns-in_err-key-clause-added c = IfOk-from_err _ _ c.from_residual.ensures.0
 
 pub returns-in_err-key-clause-holds : goal.returns-in_err-key-clause-holds
-returns-in_err-key-clause-holds c = no_success _ _ c.from_residual.ensures.0
+returns-in_err-key-clause-holds c = IfOk-from_err _ _ c.from_residual.ensures.0
 
 pub returns-in_err-key-clause-len : goal.returns-in_err-key-clause-len
-returns-in_err-key-clause-len c = no_value _ _ c.from_residual.ensures.0
+returns-in_err-key-clause-len c = IfOk-from_err _ _ c.from_residual.ensures.0
 
 pub returns-in_err-key-clause-names : goal.returns-in_err-key-clause-names
 returns-in_err-key-clause-names c = subst AreNames c.self.view_is c.self.invariant.1
@@ -95,15 +97,15 @@ still c = shown_still string_bytes c.self.inside.table.entries c.insert_sorted.n
     c.in_err-insert_sorted.ensures.err c.self.invariant.0 c.self.invariant.1
 
 pub returns-in_err-insert_sorted-clause-added : goal.returns-in_err-insert_sorted-clause-added
-returns-in_err-insert_sorted-clause-added c = no_value _ _
+returns-in_err-insert_sorted-clause-added c = IfOk-from_err _ _
     c.from_residual-in_err-insert_sorted.ensures.0
 
 pub returns-in_err-insert_sorted-clause-holds : goal.returns-in_err-insert_sorted-clause-holds
-returns-in_err-insert_sorted-clause-holds c = no_success _ _
+returns-in_err-insert_sorted-clause-holds c = IfOk-from_err _ _
     c.from_residual-in_err-insert_sorted.ensures.0
 
 pub returns-in_err-insert_sorted-clause-len : goal.returns-in_err-insert_sorted-clause-len
-returns-in_err-insert_sorted-clause-len c = no_value _ _
+returns-in_err-insert_sorted-clause-len c = IfOk-from_err _ _
     c.from_residual-in_err-insert_sorted.ensures.0
 
 pub returns-in_err-insert_sorted-clause-present : goal.returns-in_err-insert_sorted-clause-present

@@ -2,11 +2,13 @@ use Rattle.std.proofs.Common.{◌≡◌, ◌≢◌, ◌∙◌, ◌⊎◌, inl, i
 use Rattle.std.proofs.Common.{false, List, length, arith, ap, refl, sym, subst}
 use Rattle.std.proofs.lemmas.Bool.{eq-eqb, eqb-true, false≢true}
 use Rattle.std.proofs.lemmas.List.Elements.{All-append}
+use Rattle.std.proofs.lemmas.List.{nil_from_length}
+use Rattle.std.proofs.lemmas.Result.{IfOk-from_err}
 use Rattle.rc_streams.specs.Noting.{HasFailed, inner_of}
 use Rattle.rc_streams.specs.Taking.{Held, IsLine, IsOneLine, LacksLine, MovesPart}
 use Rattle.rc_streams.proofs.Handing.{hands_part, hands_more, hands_whole, lacks_part, lacks_piece}
-use Rattle.rc_streams.proofs.Handing.{takes_of, takes_more, no_length}
-use Rattle.rc_streams.proofs.Pieces.{as_read, no_success, no_value, takes_same, told_as}
+use Rattle.rc_streams.proofs.Handing.{takes_of, takes_more}
+use Rattle.rc_streams.proofs.Pieces.{as_read, takes_same, told_as}
 use Rattle.rc_streams.proofs.lines.Lines.next.Goals as goal
 use Rattle.rc_streams.proofs.lines.Lines.next.Goals.{then-is_empty, else-is_empty}
 
@@ -49,10 +51,10 @@ falls : (before here after count : ℕ) → here ≡ before → after ≡ here +
 falls before here after count same more some within = omega arith
 
 pub returns-in_err-take_line-clause-line : goal.returns-in_err-take_line-clause-line
-returns-in_err-take_line-clause-line g c = no_value _ _ c.from_residual.ensures.0
+returns-in_err-take_line-clause-line g c = IfOk-from_err _ _ c.from_residual.ensures.0
 
 pub returns-in_err-take_line-clause-sound : goal.returns-in_err-take_line-clause-sound
-returns-in_err-take_line-clause-sound g c = no_success _ _ c.from_residual.ensures.0
+returns-in_err-take_line-clause-sound g c = IfOk-from_err _ _ c.from_residual.ensures.0
 
 pub returns-in_err-take_line-clause-waits : goal.returns-in_err-take_line-clause-waits
 returns-in_err-take_line-clause-waits g c = unread c.loop-line.invariant.waits
@@ -85,10 +87,10 @@ pub returns-then-branch-clause-told : goal.returns-then-branch-clause-told
 returns-then-branch-clause-told g c = λ failed. absurd (c.loop-line.invariant.sound failed)
 
 pub returns-in_err-refill-clause-line : goal.returns-in_err-refill-clause-line
-returns-in_err-refill-clause-line g c = no_value _ _ c.from_residual-in_err-refill.ensures.0
+returns-in_err-refill-clause-line g c = IfOk-from_err _ _ c.from_residual-in_err-refill.ensures.0
 
 pub returns-in_err-refill-clause-sound : goal.returns-in_err-refill-clause-sound
-returns-in_err-refill-clause-sound g c = no_success _ _ c.from_residual-in_err-refill.ensures.0
+returns-in_err-refill-clause-sound g c = IfOk-from_err _ _ c.from_residual-in_err-refill.ensures.0
 
 pub returns-in_err-refill-clause-waits : goal.returns-in_err-refill-clause-waits
 returns-in_err-refill-clause-waits g c =
@@ -150,11 +152,12 @@ returns-then-branch-eq0-clause-line g c =
     let read = c.in_ok-refill.ensures.read in
     let hands = hands_more _ _ _ _ _ _ _ _
     (hands_part _ _ _ _ _ _ _ c.loop-line.invariant.hands moves) (moves.5 refl) read in
-    let none = no_length c.refill.new.self.pending (read.1 ∙ c.if-branch-eq0.true) in
+    let none = nil_from_length c.refill.new.self.pending (read.1 ∙ c.if-branch-eq0.true) in
     elim c.if-is_empty.branch [
       | then-is_empty w ↦
           let long = eqb-true _ 0 (sym c.is_empty.ensures ∙ w.if-is_empty.true) in
-          let empty = no_length c.take_line.new.line.items (sym c.take_line.new.line.ok.0 ∙ long) in
+          let empty =
+          nil_from_length c.take_line.new.line.items (sym c.take_line.new.line.ok.0 ∙ long) in
           rw w.result-is (
             rw empty at hands,
             (none, (read.3 c.if-branch-eq0.true).0, (read.3 c.if-branch-eq0.true).1),

@@ -1,9 +1,10 @@
 use Rattle.std.proofs.Common.{◌≤◌, ◌<◌, ◌-◌, ℕ, refl, ap, subst, zero-le, arith}
 use Rattle.std.proofs.KnownBytes.{Keeps-refl}
 use Rattle.std.proofs.lemmas.List.{length-replicate}
+use Rattle.std.proofs.lemmas.Result.{IfOk-from_err}
 use Rattle.rc_streams.specs.Noting.{inner_of}
 use Rattle.rc_streams.specs.Taking.{Held}
-use Rattle.rc_streams.proofs.Pieces.{by_memory, by_read, no_success, no_value, read_part}
+use Rattle.rc_streams.proofs.Pieces.{by_memory, by_read, read_part}
 use Rattle.rc_streams.proofs.Pieces.{read_within, refills_read, room_given, room_low, room_part}
 use Rattle.rc_streams.proofs.Pieces.{room_some, taken_within, takes_none, takes_read}
 use Rattle.rc_streams.proofs.lines.Lines.refill.Goals as goal
@@ -39,10 +40,10 @@ slice_bounds-read_some-end g c =
     room_part _ _ _ c.min-room.ensures (length-replicate {A = ℕ} 8192 0)
 
 pub returns-in_err-count-clause-read : goal.returns-in_err-count-clause-read
-returns-in_err-count-clause-read g c = no_value _ _ c.from_residual.ensures.0
+returns-in_err-count-clause-read g c = IfOk-from_err _ _ c.from_residual.ensures.0
 
 pub returns-in_err-count-clause-sound : goal.returns-in_err-count-clause-sound
-returns-in_err-count-clause-sound g c = no_success _ _ c.from_residual.ensures.0
+returns-in_err-count-clause-sound g c = IfOk-from_err _ _ c.from_residual.ensures.0
 
 pub returns-in_err-count-clause-taken : goal.returns-in_err-count-clause-taken
 returns-in_err-count-clause-taken g c = takes_none _ _ _ c.in_err-count.ensures.bytes
@@ -69,12 +70,12 @@ slice_bounds-extend_from_slice-end g c = read_part _ _ _ c.in_ok-count.ensures.b
 
 pub returns-in_err-extend_from_slice-clause-read : goal.returns-in_err-extend_from_slice-clause-read
 returns-in_err-extend_from_slice-clause-read g c =
-    no_value _ _ c.from_residual-in_err-extend_from_slice.ensures.0
+    IfOk-from_err _ _ c.from_residual-in_err-extend_from_slice.ensures.0
 
 pub returns-in_err-extend_from_slice-clause-sound :
     goal.returns-in_err-extend_from_slice-clause-sound
 returns-in_err-extend_from_slice-clause-sound g c =
-    no_success _ _ c.from_residual-in_err-extend_from_slice.ensures.0
+    IfOk-from_err _ _ c.from_residual-in_err-extend_from_slice.ensures.0
 
 pub returns-in_err-extend_from_slice-clause-taken :
     goal.returns-in_err-extend_from_slice-clause-taken

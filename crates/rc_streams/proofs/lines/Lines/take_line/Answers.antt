@@ -3,11 +3,12 @@ use Rattle.std.proofs.Common.{sym, ℕ, List, arith}
 use borrow.Author.Tests.{tests}
 use Rattle.std.proofs.lemmas.Iterator.{IsFirst-from_position, YieldsList-from_slice}
 use Rattle.std.specs.List.{AllWithin}
+use Rattle.std.proofs.lemmas.Result.{IfOk-from_err}
 use Rattle.rc_streams.specs.Taking.{Held, BeginsTooLong, IsPartFault}
 use Rattle.rc_streams.proofs.Handing.{begins_long, held_of, part_as, whole_long}
 use Rattle.rc_streams.proofs.Parts.{EndsAt, no_end, one_part, rest_of, used_low, used_within}
 use Rattle.rc_streams.proofs.Parts.{whole_part}
-use Rattle.rc_streams.proofs.Pieces.{no_success, no_value, told_as}
+use Rattle.rc_streams.proofs.Pieces.{told_as}
 use Rattle.rc_streams.proofs.lines.Lines.take_line.Goals as goal
 
 as_much : (n m : ℕ) → n ≡ m → n ≤ m
@@ -17,10 +18,10 @@ pub slice_bounds-held-count : goal.slice_bounds-held-count
 slice_bounds-held-count c = used_low _ _ _ c.self.invariant.0 c.deref.ensures.len
 
 pub returns-in_err-add_part-in-Some-clause-moved : goal.returns-in_err-add_part-in-Some-clause-moved
-returns-in_err-add_part-in-Some-clause-moved c = no_value _ _ c.from_residual.ensures.0
+returns-in_err-add_part-in-Some-clause-moved c = IfOk-from_err _ _ c.from_residual.ensures.0
 
 pub returns-in_err-add_part-in-Some-clause-short : goal.returns-in_err-add_part-in-Some-clause-short
-returns-in_err-add_part-in-Some-clause-short c = no_success _ _ c.from_residual.ensures.0
+returns-in_err-add_part-in-Some-clause-short c = IfOk-from_err _ _ c.from_residual.ensures.0
 
 pub returns-in_err-add_part-in-Some-clause-within :
     goal.returns-in_err-add_part-in-Some-clause-within
@@ -45,11 +46,11 @@ returns-in_err-add_part-in-Some-clause-fault c =
 
 pub returns-in_err-add_part-in-None-clause-moved : goal.returns-in_err-add_part-in-None-clause-moved
 returns-in_err-add_part-in-None-clause-moved c =
-    no_value _ _ c.from_residual-in_err-add_part-in-None.ensures.0
+    IfOk-from_err _ _ c.from_residual-in_err-add_part-in-None.ensures.0
 
 pub returns-in_err-add_part-in-None-clause-short : goal.returns-in_err-add_part-in-None-clause-short
 returns-in_err-add_part-in-None-clause-short c =
-    no_success _ _ c.from_residual-in_err-add_part-in-None.ensures.0
+    IfOk-from_err _ _ c.from_residual-in_err-add_part-in-None.ensures.0
 
 pub returns-in_err-add_part-in-None-clause-within :
     goal.returns-in_err-add_part-in-None-clause-within
