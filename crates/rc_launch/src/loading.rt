@@ -92,7 +92,8 @@ fn room_for(base: &[u8], new: &[u8]) -> Room {
     let (more, others) = size_of(new);
     let services = services.saturating_add(more).saturating_add(4);
     let names = names.saturating_add(others);
-    Room::of(services.saturating_mul(4), names.saturating_mul(4))
+    let texts = (base.len() as u64).saturating_add(new.len() as u64);
+    Room::of(services.saturating_mul(4), names.saturating_mul(4)).with_texts(texts)
 }
 
 // Returns the number of services in the text of a database, and the number of bytes in the lines of

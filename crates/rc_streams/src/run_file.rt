@@ -38,6 +38,8 @@ const PIECE: usize = 4096;
 pub struct Room {
     lines: u64,
     names: u64,
+    /// How many bytes of databases come into the file of the session.
+    texts: u64,
     /// Whether a run is refused without it.
     is_needed: bool,
 }
@@ -52,7 +54,18 @@ impl Room {
             // A line that does not fit on a page any more begins the next one.
             lines: lines.saturating_add(lines / 10).saturating_add(PAGE),
             names: names.saturating_add(services),
+            texts: 0,
             is_needed: true,
+        }
+    }
+
+    /// Returns this room for a file of a session into which so many bytes of databases come.
+    pub fn with_texts(self, texts: u64) -> Room {
+        Room {
+            lines: self.lines,
+            names: self.names,
+            texts,
+            is_needed: self.is_needed,
         }
     }
 
@@ -61,6 +74,7 @@ impl Room {
         Room {
             lines: self.lines,
             names: self.names,
+            texts: self.texts,
             is_needed: false,
         }
     }
@@ -98,6 +112,8 @@ pub struct RunFile {
     has_run: AtomicBool,
     /// Whether a line could not be written.
     has_failed: AtomicBool,
+    /// How many bytes the file of the session has that is to be replaced, with its databases.
+    whole: u64,
 }
 
 impl RunFile {
@@ -111,7 +127,8 @@ impl RunFile {
             Ok(found) => (found.permissions(), found.len()),
             Err(_) => (new_rights(rt), 0),
         };
-        if let Err(error) = check_room(&file, room.needed(length)) {
+        let whole = length.saturating_add(room.texts);
+        if let Err(error) = check_room(&file, room.needed(whole)) {
             drop(file);
             return Err(error);
         }
@@ -127,6 +144,7 @@ impl RunFile {
             is_open: AtomicBool::new(false),
             has_run: AtomicBool::new(has_run),
             has_failed: AtomicBool::new(false),
+            whole,
         })
     }
 
@@ -141,7 +159,7 @@ impl RunFile {
         }
         self.has_run.store(true, Ordering::SeqCst);
         let length = head.len() as u64;
-        match reserve(&self.file, length, room) {
+        match reserve(&self.file, length, self.whole, room) {
             Ok(end) => {
                 self.place.store(length, Ordering::SeqCst);
                 self.end.store(end, Ordering::SeqCst);
@@ -260,10 +278,13 @@ fn check_room(file: &File, room: u64) -> io::Result<()> {
     filled
 }
 
-/// Reserves room after the first `length` bytes of a log, and returns its end. If the room is
-/// missing and not needed, returns `UNBOUND`.
-fn reserve(file: &File, length: u64, room: Room) -> io::Result<u64> {
-    let end = length.saturating_add(room.behind(length));
+/// Reserves room after the first `length` bytes of a log, and returns its end. It covers the file
+/// of the session with its databases, which has `whole` bytes. If the room is missing and not
+/// needed, returns `UNBOUND`.
+fn reserve(file: &File, length: u64, whole: u64, room: Room) -> io::Result<u64> {
+    let end = length
+        .saturating_add(room.behind(length))
+        .saturating_add(whole);
     match fill(file, length, end) {
         Ok(()) => Ok(end),
         Err(error) if room.is_needed => Err(error),

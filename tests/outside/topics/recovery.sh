@@ -728,6 +728,17 @@ END
     unshare -m sh full.sh "$program" < /dev/null > /dev/null 2>&1
     wants 'raised a b slow top\nok\nat 1 of 2\n0 +a +b +slow +top\nok\n' ''
     judge 'a disk that fills in the midst of a change' 0
+    # The room of its log covers a database with long scripts, too, which the first command puts into FILE.
+    begin_tree
+    oneshot a "echo up a >> ran; : $(head -c 60000 /dev/zero | tr '\0' x)"
+    oneshot slow 'head -c 300000 /dev/zero > disk/filler 2> /dev/null; true' a
+    oneshot top 'echo up top >> ran' slow
+    "$program" compile tree > base
+    sed 's/size=64k/size=256k/; s/change -w 1 b top/change -w 1 top/' full.sh > long.sh
+    echo 0 > status
+    unshare -m sh long.sh "$program" < /dev/null > /dev/null 2>&1
+    wants 'raised a slow top\nok\nat 1 of 2\n0 +a +slow +top\nok\n' ''
+    judge 'a disk that fills in the midst of a first change' 0
     # Whatever room there is.
     begin_tree
     for number in $(seq 60); do
