@@ -33,6 +33,8 @@ pub mod HeldHistory
 pub mod Frames
 -- What a text that is put into the store of a session makes of its history.
 pub mod Putting
+-- How the store of a command keeps what comes next.
+pub mod Manners
 -- What an undo or a redo of a history leaves of its text that ends with status 1 or 2.
 pub mod Halted
 -- An undo that goes back to a state of the journal, by one undo after the other.

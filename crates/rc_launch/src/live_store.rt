@@ -15,6 +15,7 @@ ghost use Rattle.rc_launch.specs.HeldHistory.{history_held, session_kept};
 ghost use Rattle.rc_launch.specs.Frames.{IsFrameBack, IsFrameOf};
 ghost use Rattle.rc_launch.specs.Putting.{Announces, IsPutAs, IsPutIn, Puts, begins_next, behind};
 ghost use Rattle.rc_launch.specs.Putting.{IsKeptThere, manner_of, stepping};
+ghost use Rattle.rc_launch.specs.Manners.{keeping_for, manner_for, source_next, source_of};
 ghost use Rattle.rc_launch.specs.declared.live_store.Frame.TheVariants as frame;
 
 use crate::loading::Loaded;
@@ -125,6 +126,9 @@ impl<'a> LiveStore<'a> {
         ensures lock { IfOk result (λ store. store.lock ≡ self.entry.lock) }
         ensures error { IfOk result (λ store. store.error ≡ self.entry.error) }
         ensures history { IfOk result (λ store. IsFrameOf opened.now store.frame) }
+        ensures manner { IfOk result (λ store.
+            manner_of store ≡ manner_for opened.now.loaded.command) }
+        ensures source { IfOk result (λ store. store.source ≡ source_of opened.now) }
     {
         let LiveStore {
             rt,
@@ -146,7 +150,7 @@ impl<'a> LiveStore<'a> {
                 frame,
                 keeping: keeping_of(opened.command()),
                 is_of_line: false,
-                next: next_of(opened),
+                next: None,
                 is_entering: false,
                 source: source_of(opened),
                 error,
@@ -215,6 +219,7 @@ impl<'a> LiveStore<'a> {
         ensures manner { IfSome self.new.next (λ next.
             (next.database.now ≡ database.now.bytes.items) × (next.list.now ≡ list.now)
             × (manner_of self.new ≡ stepping (Some next))) }
+        ensures source { IfSome self.new.next (λ next. next.source ≡ database.now.path) }
         ensures some { IsSome self.new.next }
     {
         self.begin_steps();
@@ -293,6 +298,7 @@ impl<'a> LiveStore<'a> {
         ensures ok { OnOk result (self.new.frame ≡ frame.History framed) }
         ensures left { OnErr result (self.new.frame ≡ self.old.frame) }
         ensures manner { manner_of self.new ≡ manner_of self.old }
+        ensures source { self.new.source ≡ self.old.source }
     {
         match self.written(framed.whole()) {
             Ok(()) => {
@@ -509,6 +515,7 @@ impl LiveStore<'_> {
         ensures ok { OnOk result (self.new.frame ≡ frame.History framed) }
         ensures left { OnErr result (self.new.frame ≡ self.old.frame) }
         ensures manner { OnOk result (manner_of self.new ≡ behind (manner_of self.old)) }
+        ensures source { self.new.source ≡ source_next self.old }
     {
         let source = match self.next {
             Some(next) if self.is_entering => Some(next.source),
@@ -526,6 +533,7 @@ impl LiveStore<'_> {
     fn leave_entered(&mut self)
         ensures frame { self.new.frame ≡ self.old.frame }
         ensures manner { manner_of self.new ≡ behind (manner_of self.old) }
+        ensures source { self.new.source ≡ self.old.source }
     {
         if self.is_entering {
             self.is_entering = false;
@@ -604,7 +612,9 @@ fn frame_back<'a>(
 }
 
 // Returns the effect of a command on the states of the session.
-fn keeping_of(command: &SessionCommand<'_>) -> Keeping {
+fn keeping_of(command: &SessionCommand<'_>) -> Keeping
+    ensures { result ≡ keeping_for command.now }
+{
     match command {
         SessionCommand::Update(_) | SessionCommand::Restart(_) => Keeping::Step,
         SessionCommand::Check(request) if request.repairs => Keeping::Step,
@@ -619,20 +629,10 @@ fn keeping_of(command: &SessionCommand<'_>) -> Keeping {
     }
 }
 
-// Returns the generation that an update begins.
-fn next_of<'a>(opened: &'a Opened<'_>) -> Option<Next<'a>> {
-    match (opened.command(), opened.new_base()) {
-        (SessionCommand::Update(request), Some(new)) => Some(Next {
-            database: new.bytes(),
-            list: &request.conversions,
-            source: new.path(),
-        }),
-        _ => None,
-    }
-}
-
 // Returns the path of the database that a history is to begin with.
-fn source_of<'a>(opened: &'a Opened<'_>) -> Option<&'a str> {
+fn source_of<'a>(opened: &'a Opened<'_>) -> Option<&'a str>
+    ensures { result ≡ source_of opened.now }
+{
     match (opened.live().history(), opened.base()) {
         (None, Some(base)) => Some(base.path()),
         _ => None,
