@@ -170,7 +170,7 @@ def arguments():
     """The commands in order, each with its arguments: the form of one, and its texts."""
     told = (TOP / TOLD).read_text()
     text = r'"(?:[^"\\]|\\.)*"'
-    one = rf"(Flag|Valued|Needed|Repeated|Long|Words)\(((?:[^()\"']|{text}|'.')*)\)|\b([A-Z_]+)\b|\b(Query)\b"
+    one = rf"(Flag|Valued|Repeated|Long|Words)\(((?:[^()\"']|{text}|'.')*)\)|\b([A-Z_]+)\b|\b(Query)\b"
 
     def parsed(source):
         for form, inner, name, query in re.findall(one, source):
@@ -210,7 +210,7 @@ def synopsis(page):
                 if texts[0] != APART[0]:
                     continue
                 said = " | ".join(f"Fl {letters[name]}" for name in APART)
-            yield f".{said}" if form == "Needed" else f".Op {said}"
+            yield f".Op {said}"
         for form, texts in args:
             if form == "Query":
                 yield ".Ar query"

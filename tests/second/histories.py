@@ -9,7 +9,7 @@ from commands import Command, do, fail_by_list, has_failed, task_of
 from forms import Lines, Refusal, is_name, is_number
 
 GREATEST = 8
-NOT_THIS = b"undorc: base is not the database of this session: undorc update -b base -l kept -B base carries it over\n"
+NOT_THIS = b"undorc: base is not the database of this session: undorc update -b base -l kept carries it over\n"
 NO_FILE = b"undorc: kept does not exist: nothing is up\n"
 NOT_FINISHED = b"undorc: an update or a restart was not finished: undorc undo -b base -l kept takes it back\n"
 

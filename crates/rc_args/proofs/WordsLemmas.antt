@@ -17,7 +17,7 @@ use Rattle.std.specs.Option.{option_map_or}
 use Rattle.rc_args.specs.Commands.{Reads, altering_program, asking_program, bare, bare_program}
 use Rattle.rc_args.specs.Commands.{change_command, changing_program, check_command}
 use Rattle.rc_args.specs.Commands.{compile_command, db_command}
-use Rattle.rc_args.specs.Commands.{flag, long_option, new_option, option, repeated}
+use Rattle.rc_args.specs.Commands.{flag, long_option, option, repeated}
 use Rattle.rc_args.specs.Commands.{plan_command, program}
 use Rattle.rc_args.specs.Commands.{edit_command, journal_command, list_command, restart_command}
 use Rattle.rc_args.specs.Commands.{status_command, query_word, replay_command, session_command}
@@ -39,7 +39,7 @@ unfolding program altering_program changing_program asking_program bare with_arg
     replay_command session_command change_command start_command stop_command step_command
     cancel_command edit_command
     restart_command status_command check_command show_command list_command journal_command
-    bare_program undo_command update_command new_option long_option
+    bare_program undo_command update_command long_option
 program_is_plain = refl
 
 program_is_simple : is_simple_and_free program ≡ true
@@ -48,7 +48,7 @@ unfolding program altering_program changing_program asking_program bare with_arg
     replay_command session_command change_command start_command stop_command step_command
     cancel_command edit_command
     restart_command status_command check_command show_command list_command journal_command
-    bare_program undo_command update_command new_option long_option
+    bare_program undo_command update_command long_option
 program_is_simple = refl
 
 -- what the matches hold is what the words ask for

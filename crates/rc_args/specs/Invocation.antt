@@ -22,7 +22,7 @@ use Rattle.rc_args.specs.declared.session_command.SessionCommand.{SessionCommand
 use Rattle.rc_args.specs.declared.session_command.SessionCommand.TheVariants as command
 use Rattle.rc_args.specs.declared.session_request.SessionRequest.{SessionRequest}
 use Rattle.rc_args.specs.declared.asked.WordsFault.{WordsFault}
-use Rattle.rc_args.specs.declared.asked.WordsFault.TheVariants.{Both, Files, NoFile, Session}
+use Rattle.rc_args.specs.declared.asked.WordsFault.TheVariants.{Files, NoFile, Session}
 
 -- what is asked of a command, and the file of `-b` or, of `cancel`, that of `-l`, if one is named
 pub data InvocationAsk : Type 0 where
@@ -165,38 +165,33 @@ invocation_by defaults (OfCancel kills file) =
     OfCancel kills (first_named file defaults.live)
 invocation_by defaults OfVersion = OfVersion
 
--- one of two files is not named
-abbrev pub LacksOne : (base live : Option Text) → Type 0
-LacksOne base live = (base ≡ None) ⊎ (live ≡ None)
+-- a line that is to go back to a state names no file of its session, or another one none that it
+-- needs
+abbrev pub LacksForLine : (to : Option ℕ) → OnceAsk → Type 0
+LacksForLine None ask = LacksFile ask
+LacksForLine (Some state) ask = ask.session.live ≡ None
 
--- a file that a line needs is not named: that of the session, or to go back to a state one of both
-abbrev pub LacksForLine : (to : Option ℕ) → OnceAsk → (base : Option Text) → Type 0
-LacksForLine None ask base = LacksFile ask
-LacksForLine (Some state) ask base = LacksOne base ask.session.live
+-- an update names no file of its session, or none of a new database
+abbrev pub LacksForUpdate : UpdateAsk → (base : Option Text) → Type 0
+LacksForUpdate ask base = (ask.session.live ≡ None) ⊎ ((ask.new ≡ None) × (base ≡ None))
 
--- a file that the command needs is not named: of a session of one line that of the session; of an
--- update, a restart, a seal, a status and a check one of both; of `cancel` that of the session
+-- a file that the command needs is not named: that of the session, where it needs one, and of an
+-- update the new database
 abbrev pub LacksItsFile : InvocationAsk → Type 0
-LacksItsFile (OfOnce ask file) = LacksForLine ask.to ask file
-LacksItsFile (OfUpdate ask file) = LacksOne file ask.session.live
-LacksItsFile (OfRestart ask file) = LacksOne file ask.session.live
-LacksItsFile (OfSeal ask file) = LacksOne file ask.live
-LacksItsFile (OfStatus ask file) = LacksOne file ask.session.live
-LacksItsFile (OfCheck ask file) = LacksOne file ask.session.live
+LacksItsFile (OfOnce ask file) = LacksForLine ask.to ask
+LacksItsFile (OfUpdate ask file) = LacksForUpdate ask file
+LacksItsFile (OfRestart ask file) = ask.session.live ≡ None
+LacksItsFile (OfSeal ask file) = ask.live ≡ None
+LacksItsFile (OfStatus ask file) = ask.session.live ≡ None
+LacksItsFile (OfCheck ask file) = ask.session.live ≡ None
 LacksItsFile (OfCancel kills file) = file ≡ None
 LacksItsFile other = ⊥
 
--- why a line is refused that lacks a file
-abbrev pub wanted_by : (to : Option ℕ) → WordsFault
-wanted_by None = NoFile
-wanted_by (Some state) = Both
-
 -- why a command is refused that lacks its file: the files that it wants
 abbrev pub wanted_files : InvocationAsk → WordsFault
-wanted_files (OfOnce ask file) = wanted_by ask.to
 wanted_files (OfUpdate ask file) = Files
 wanted_files (OfCancel kills file) = Session
-wanted_files other = Both
+wanted_files other = NoFile
 
 -- the words ask this by these defaults, and each file that its command needs is named
 abbrev pub InvokesBy : DefaultsAsk → List Text → InvocationAsk → Type 0

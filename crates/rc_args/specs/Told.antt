@@ -1,5 +1,5 @@
 -- The commands of the program, as its tables tell of them.
-use Rattle.std.specs.Prelude.{List, ℕ, Some, codes, true, nat_lt}
+use Rattle.std.specs.Prelude.{List, ℕ, Some, codes, nat_lt}
 use Rattle.std.specs.List.{fold}
 use Rattle.clap.specs.Lexer.{usize_max}
 use Rattle.clap.specs.Words.{App, Rule, Text, new_rule}
@@ -7,7 +7,7 @@ use Rattle.clap.specs.declared.builder.ArgAction.TheVariants.{Append}
 use Rattle.rc_args.specs.Commands.{bare, flag, long_option, option, query_word, repeated}
 use Rattle.rc_args.specs.Commands.{with_arg, with_command}
 use Rattle.rc_args.specs.declared.cmdline.told.ToldArg.{ToldArg}
-use Rattle.rc_args.specs.declared.cmdline.told.ToldArg.TheVariants.{Flag, Valued, Needed, Repeated}
+use Rattle.rc_args.specs.declared.cmdline.told.ToldArg.TheVariants.{Flag, Valued, Repeated}
 use Rattle.rc_args.specs.declared.cmdline.told.ToldArg.TheVariants.{Long, Query, Words}
 use Rattle.rc_args.specs.declared.cmdline.told.ToldCommand.{ToldCommand}
 
@@ -24,7 +24,6 @@ listed least = record (new_rule (codes "words")) {
 abbrev pub told_rule : ToldArg → Rule
 told_rule (Flag id letter help) = flag id.now letter
 told_rule (Valued id letter value help) = option id.now letter
-told_rule (Needed id letter value help) = record (option id.now letter) { required = true }
 told_rule (Repeated id letter value help) = repeated id.now letter
 told_rule (Long id value help) = long_option id.now
 told_rule Query = query_word

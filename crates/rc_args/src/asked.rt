@@ -33,14 +33,12 @@ pub enum WordsFault {
     Query,
     /// They name the file of a session, and ask for no picture.
     Live,
-    /// They name no file that an update wants.
+    /// They name no file of a session, or none of a new database, and an update wants both.
     Files,
     /// They name no file of the session whose command is to be called off.
     Session,
     /// They name no file that keeps what is up.
     NoFile,
-    /// They name no file of the session or of its database, and the command wants both.
-    Both,
     /// They name no service, and the command wants one.
     Names,
     /// Their first word is no name that a bundle may have.
@@ -181,8 +179,9 @@ fn words_of(fault: &WordsFault) -> &'static str {
             "db has no such query, or it takes other words; `undorc db --help` lists the queries"
         }
         WordsFault::Live => "-l of db goes with the query dot alone",
-        WordsFault::Files => "update wants -b and -l, or UNDORC_DB and UNDORC_LIVE, and -B",
-        WordsFault::Both => "this command wants -b and -l, or UNDORC_DB and UNDORC_LIVE",
+        WordsFault::Files => {
+            "update wants -l, or UNDORC_LIVE, and a new database: -b, UNDORC_DB or -B"
+        }
         WordsFault::Session => "cancel wants -l, or UNDORC_LIVE",
         WordsFault::NoFile => "-l is missing, or UNDORC_LIVE: the file that keeps what is up",
         WordsFault::Names => "start and stop want a name, or -a",

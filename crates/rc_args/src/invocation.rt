@@ -227,7 +227,7 @@ impl<'a> Invocation<'a> {
         match self {
             Invocation::Session(command, _) => command.wanted_files(),
             Invocation::Cancel(_, _) => WordsFault::Session,
-            _ => WordsFault::Both,
+            _ => WordsFault::NoFile,
         }
     }
 }

@@ -2,9 +2,9 @@
 ghost use Rattle.std.specs.Prelude.{◌≡◌, ◌↔◌, IsTrue, Option, option_map};
 ghost use Rattle.clap.specs.Words.{Text};
 ghost use Rattle.rc_args.specs.Defaults.{defaults_ask_of, first_named};
-ghost use Rattle.rc_args.specs.Invocation.{LacksForLine, LacksItsFile, LacksOne};
+ghost use Rattle.rc_args.specs.Invocation.{LacksForLine, LacksItsFile};
 ghost use Rattle.rc_args.specs.Invocation.{command_session, invocation_by, on_session};
-ghost use Rattle.rc_args.specs.Invocation.{wanted_by, wanted_files};
+ghost use Rattle.rc_args.specs.Invocation.{wanted_files};
 ghost use Rattle.rc_args.specs.OnceAsked.{once_ask_of};
 
 use crate::asked::WordsFault;
@@ -77,19 +77,22 @@ impl<'a> SessionCommand<'a> {
         }
     }
 
-    /// Returns true if the file of the database, or that of the session, is needed and not named.
+    /// Returns true if the file of the session, or the new database of an update, is needed and not
+    /// named.
     pub(crate) fn lacks_its_file(&self, base: Option<&str>) -> bool
         ensures { IsTrue result ↔ LacksItsFile (on_session self.now
             (option_map (λ f. f.now) base.entry)) }
     {
         match self {
             SessionCommand::Lines(_) => false,
-            SessionCommand::Line(request) => line_lacks(request, base),
-            SessionCommand::Update(request) => lacks_one(base, request.session.live),
+            SessionCommand::Line(request) => line_lacks(request),
+            SessionCommand::Update(request) => {
+                request.session.live.is_none() || (request.new.is_none() && base.is_none())
+            }
             SessionCommand::Restart(request)
             | SessionCommand::Status(request)
-            | SessionCommand::Check(request) => lacks_one(base, request.session.live),
-            SessionCommand::Seal(request) => lacks_one(base, request.live),
+            | SessionCommand::Check(request) => request.session.live.is_none(),
+            SessionCommand::Seal(request) => request.live.is_none(),
         }
     }
 
@@ -98,38 +101,18 @@ impl<'a> SessionCommand<'a> {
         ensures { (file : Option Text) → result ≡ wanted_files (on_session self.now file) }
     {
         match self {
-            SessionCommand::Line(request) => wanted_by(request.to),
             SessionCommand::Update(_) => WordsFault::Files,
-            _ => WordsFault::Both,
+            _ => WordsFault::NoFile,
         }
     }
 }
 
-// Returns true if a file that a line needs is not named. To go back to a state, it needs both.
-fn line_lacks(request: &OnceRequest<'_>, base: Option<&str>) -> bool
-    ensures { IsTrue result ↔ LacksForLine request.now.to (once_ask_of request.now)
-        (option_map (λ f. f.now) base.entry) }
+// Returns true if the file of the session is not named, and a line needs it.
+fn line_lacks(request: &OnceRequest<'_>) -> bool
+    ensures { IsTrue result ↔ LacksForLine request.now.to (once_ask_of request.now) }
 {
     match request.to {
-        Some(_) => lacks_one(base, request.session.live),
+        Some(_) => request.session.live.is_none(),
         None => request.lacks_file(),
     }
-}
-
-// Returns the fault that says which files a line wants that goes back to this state.
-fn wanted_by(to: Option<u32>) -> WordsFault
-    ensures { result ≡ wanted_by to }
-{
-    match to {
-        Some(_) => WordsFault::Both,
-        None => WordsFault::NoFile,
-    }
-}
-
-// Returns true if at least one of two files is not named.
-fn lacks_one(base: Option<&str>, live: Option<&str>) -> bool
-    ensures { IsTrue result ↔ LacksOne (option_map (λ f. f.now) base.entry)
-        (option_map (λ f. f.now) live.entry) }
-{
-    base.is_none() || live.is_none()
 }

@@ -22,8 +22,8 @@ use std::alloc::{AllocError, Global};
 pub struct UpdateRequest<'a> {
     /// The options of its two sessions, and the file that says what is live.
     pub session: SessionRequest<'a>,
-    /// The file of the new database.
-    pub new: &'a str,
+    /// The file of the new database, if another is named than that of `-b`.
+    pub new: Option<&'a str>,
     /// The file of the renames, if there is one.
     pub renames: Option<&'a str>,
     /// Services that go on under another name, or restart though unchanged. Argument parsing sets
@@ -90,14 +90,11 @@ pub(crate) fn update_in<'a>(
     ensures wrong { IfErr result (λ fault. fault ≢ Memory → (ask : UpdateAsk) →
         AsksUpdateIn (rows_of (found_of matches.now)) ask → ⊥) }
 {
-    let Some(new) = matches.get_str("new") else {
-        return Err(WordsFault::Files);
-    };
     let session = session_in(alloc, matches)?;
     let conversions = restarts_in(alloc, matches)?;
     Ok(UpdateRequest {
         session,
-        new,
+        new: text_in(matches, "new"),
         renames: text_in(matches, "renames"),
         conversions,
         dry: is_on(matches, "dry"),

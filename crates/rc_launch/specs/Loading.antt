@@ -1,6 +1,6 @@
 -- What is read for a command on the file of a session.
-use Rattle.std.specs.Prelude.{◌≡◌, ◌≢◌, ℕ, List, [], Option, None, Some, false, true}
-use Rattle.std.specs.Prelude.{option_map, unwrap_or}
+use Rattle.std.specs.Prelude.{◌≡◌, ◌≢◌, ℕ, Bool, List, [], Option, None, Some, false, true}
+use Rattle.std.specs.Prelude.{is_some, option_map, unwrap_or}
 use Rattle.std.specs.Borrow.{Bor}
 use Rattle.rc_args.specs.Invocation.{command_session}
 use Rattle.rc_args.specs.OnceAsked.{once_saying_of}
@@ -9,6 +9,8 @@ use Rattle.rc_args.specs.declared.session_command.SessionCommand.{SessionCommand
 use Rattle.rc_args.specs.declared.session_command.SessionCommand.TheVariants as command
 use Rattle.rc_args.specs.declared.session_request.SessionRequest.{SessionRequest}
 use Rattle.rc_cli.specs.Deciding.{Moves}
+use Rattle.rc_launch.specs.declared.fault.OpenFault.{OpenFault}
+use Rattle.rc_launch.specs.declared.fault.OpenFault.TheVariants.{NoDatabase}
 use Rattle.rc_launch.specs.declared.loading.Loaded.{Loaded}
 use Rattle.rc_launch.specs.declared.texts.FileText.{FileText}
 use Rattle.rc_launch.specs.declared.texts.FoundHistory.{FoundHistory}
@@ -44,10 +46,14 @@ bytes_in text = text.bytes.items
 abbrev pub bytes_of : Option FileText → List ℕ
 bytes_of text = unwrap_or (option_map bytes_in text) []
 
--- the path of the new database of an update
-abbrev pub new_file : SessionCommand → Option (Bor (List ℕ))
-new_file (command.Update request) = Some request.new
-new_file other = None
+-- the path of the new database of an update: the one that it names, or else the file of `-b`
+abbrev pub new_by : (named file : Option (Bor (List ℕ))) → Option (Bor (List ℕ))
+new_by (Some path) file = Some path
+new_by None file = file
+
+abbrev pub new_file : SessionCommand → (file : Option (Bor (List ℕ))) → Option (Bor (List ℕ))
+new_file (command.Update request) file = new_by request.new file
+new_file other file = None
 
 -- the lines of an input are served
 abbrev pub AreLines : SessionCommand → Type 0
@@ -68,11 +74,26 @@ file_by None live file = file
 abbrev pub base_file : LiveText → (file : Option (Bor (List ℕ))) → Option (Bor (List ℕ))
 base_file live file = file_by live.history live.path file
 
+-- a command needs a database, and does not read one from the input
+abbrev pub wants_base : SessionCommand → Bool
+wants_base (command.Lines request) = false
+wants_base (command.Line request) = is_some request.to
+wants_base other = true
+
+-- it has none: its session has no database, and none is named
+abbrev pub LacksBase : SessionCommand → (file : Option (Bor (List ℕ))) → LiveText → Type 0
+LacksBase command file live = (wants_base command ≡ true) × (base_file live file ≡ None)
+
+-- it is refused so
+abbrev pub IsNoDatabase : OpenFault → Type 0
+IsNoDatabase (NoDatabase path) = Unit {0}
+IsNoDatabase other = ⊥
+
 -- a command with the databases that were read for it
 abbrev pub IsLoaded : SessionCommand → (file : Option (Bor (List ℕ))) → LiveText → Loaded → Type 0
 IsLoaded command file live loaded = (loaded.command ≡ command)
     × (option_map path_of loaded.base ≡ base_file live file)
-    × (option_map path_of loaded.new ≡ new_file command)
+    × (option_map path_of loaded.new ≡ new_file command file) × (LacksBase command file live → ⊥)
 
 -- the text of the history that stood in the file of a session, if one did
 abbrev pub history_read : ReadFiles → Option (List ℕ)

@@ -32,6 +32,9 @@ pub enum OpenFault<'a> {
     /// The file by which the command on this file is called off can't be used.
     #[error("the file that calls a command off can't be used")]
     Stop(&'a str, io::Error),
+    /// The command needs a database: this file of its session has none, and none is named.
+    #[error("no database is named")]
+    NoDatabase(&'a str),
     /// The run log of this file is of a command that was cut short, and no database is named.
     #[error("the run log needs a database")]
     NoBase(&'a str),

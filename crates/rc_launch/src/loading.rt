@@ -1,7 +1,8 @@
 //! Reads the databases of a command.
-ghost use Rattle.std.specs.Prelude.{◌≡◌, ◌↔◌, option_map, IfOk, IsTrue};
-ghost use Rattle.rc_launch.specs.Loading.{IsLoaded, IsOfLines, MovesBy, base_file};
-ghost use Rattle.rc_launch.specs.Loading.{bytes_of, new_file, path_of, session_in};
+ghost use Rattle.std.specs.Prelude.{◌≡◌, ◌↔◌, option_map, IfErr, IfOk, IsTrue};
+ghost use Rattle.rc_launch.specs.Loading.{IsLoaded, IsNoDatabase, IsOfLines, LacksBase, MovesBy};
+ghost use Rattle.rc_launch.specs.Loading.{base_file, bytes_of, new_file, path_of, session_in};
+ghost use Rattle.rc_launch.specs.Loading.{wants_base};
 
 use crate::fault::OpenFault;
 use crate::texts::{FileText, LiveText};
@@ -144,7 +145,7 @@ pub(crate) fn bytes_of<'b>(text: &'b Option<FileText<'_>>) -> &'b [u8]
 }
 
 /// Reads the databases of a command: that of its session or of this file, and the new one of an
-/// update.
+/// update. Fails if the command needs a database and has none.
 pub(crate) fn load<'a>(
     rt: &HostRuntime,
     command: SessionCommand<'a>,
@@ -152,8 +153,14 @@ pub(crate) fn load<'a>(
     live: &LiveText<'a>,
 ) -> Result<Loaded<'a>, OpenFault<'a>>
     ensures loaded { IfOk result (IsLoaded command.entry file.entry live.now) }
+    ensures lacks { LacksBase command.entry file.entry live.now → IfErr result IsNoDatabase }
 {
-    let new = new_file(&command);
+    if wants_base(&command) && live.base_path(file).is_none() {
+        let path = command.session().live.unwrap_or("");
+        drop(command);
+        return Err(OpenFault::NoDatabase(path));
+    }
+    let new = new_file(&command, file);
     let other = match (live.database(), file) {
         (Some(database), Some(path)) if new.is_none() && !has(rt, path, database) => Some(path),
         _ => None,
@@ -207,13 +214,27 @@ fn base_of<'a>(
     }
 }
 
-// Returns the path of the new database of an update.
-fn new_file<'a>(command: &SessionCommand<'a>) -> Option<&'a str>
-    ensures { result ≡ new_file command.now }
+// Returns the path of the new database of an update: the one that it names, or else this file.
+fn new_file<'a>(command: &SessionCommand<'a>, file: Option<&'a str>) -> Option<&'a str>
+    ensures { result ≡ new_file command.now file.entry }
 {
     match command {
-        SessionCommand::Update(request) => Some(request.new),
+        SessionCommand::Update(request) => match request.new {
+            Some(path) => Some(path),
+            None => file,
+        },
         _ => None,
+    }
+}
+
+// Returns true if a command needs a database, and does not read one from the input.
+fn wants_base(command: &SessionCommand<'_>) -> bool
+    ensures { result ≡ wants_base command.now }
+{
+    match command {
+        SessionCommand::Lines(_) => false,
+        SessionCommand::Line(request) => request.to.is_some(),
+        _ => true,
     }
 }
 

@@ -1,7 +1,8 @@
 //! Messages about the lock and the run log beside the file of a session.
 use log::info;
-use rc_launch::frontend::{FileOptions, ForShell, tell_failure, tell_file, tell_no_history};
+use rc_launch::frontend::{FileOptions, tell_failure, tell_file, tell_no_history};
 use rc_launch::{FileText, LiveText, Note, OpenFault, Opened, SeenLog, left_report};
+use rc_streams::ending::WRONG_LINE;
 use rc_streams::inherited::Unfit;
 use rc_streams::messages::{HINT, MESSAGE, Messages};
 use rc_streams::run_file;
@@ -49,9 +50,8 @@ fn is_cut(opened: &Opened<'_>, seen: &SeenLog<'_>) -> bool {
 /// was cut short, if the command takes nothing of it back.
 pub fn tell_session(rt: &HostRuntime, opened: &Opened<'_>, files: FileOptions<'_>) {
     if let Some(path) = opened.unused_base() {
-        let new = ForShell(path);
         info!(Messages(rt); target: MESSAGE,
-            "{path} is not the database of this session: undorc update{files} -B {new} carries it over");
+            "{path} is not the database of this session: undorc update{files} carries it over");
     }
     if let (false, Some(path), Ok(None)) = (
         opened.moves(),
@@ -118,6 +118,7 @@ pub fn tell_opening(rt: &HostRuntime, fault: &OpenFault<'_>) -> u8 {
         OpenFault::Lock(path, error) => tell_beside(rt, path, ".lock", error),
         OpenFault::Log(path, error) => tell_beside(rt, path, ".run", error),
         OpenFault::Stop(path, error) => tell_beside(rt, path, ".stop", error),
+        OpenFault::NoDatabase(path) => tell_no_database(rt, path),
         OpenFault::NoBase(path) => tell_unfit(
             rt,
             path,
@@ -130,6 +131,13 @@ pub fn tell_opening(rt: &HostRuntime, fault: &OpenFault<'_>) -> u8 {
         ),
         OpenFault::Memory => tell_failure(rt, "Memory"),
     }
+}
+
+/// Reports that a command needs a database, and returns the status: that of a wrong command line.
+fn tell_no_database(rt: &HostRuntime, path: &str) -> u8 {
+    info!(Messages(rt); target: MESSAGE,
+        "this command wants -b, or UNDORC_DB: {path} has no database");
+    WRONG_LINE
 }
 
 /// Reports why scripts can't be run with what the program inherits, and returns the status.

@@ -77,7 +77,7 @@ database=live leaves_alone 1 '' 'undorc: Bad 0\n' --to 4 -x none
 # A history has its own database, whatever -b names.
 cp four live
 not_base() {
-    printf 'undorc: %s is not the database of this session: undorc update -b %s -l live -B %s carries it over' "$1" "$1" "$1"
+    printf 'undorc: %s is not the database of this session: undorc update -b %s -l live carries it over' "$1" "$1"
 }
 database=other leaves_alone 0 'ok\n' "$(not_base other)\n" --to 4 -x none
 database=live leaves_alone 0 'ok\n' "$(not_base live)\n" --to 4 -x none
@@ -108,7 +108,10 @@ wrong undo --to -1 -b base -l live
 wrong undo --to 4294967296 -b base -l live
 wrong undo --to 1 --to 1 -b base -l live
 wrong undo --to 1 -n -b base -l live
-wrong undo --to 1 -l live -x none
+session_text four > plain
+wrong undo --to 1 -l plain -x none
+says '^undorc: this command wants -b, or UNDORC_DB: plain has no database$'
+expect 1 '' 'undorc: NoState 9\n' '' undo --to 9 -l live -x none
 wrong undo --to 1 -b base -x none
 wrong undo --to 1 1 -b base -l live
 wrong redo --to 1 -b base -l live

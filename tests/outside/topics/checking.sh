@@ -162,15 +162,18 @@ expect 111 '' 'undorc: Io\n' '' check -c ./ctl -b made -l folder
 expect 111 '' 'undorc: Io\n' '' check -c ./ctl -b nowhere -l plain
 asked_of
 # FILE is a history: its own database counts.
-told='undorc: other is not the database of this session: undorc update -b other -l live -B other carries it over\n'
+told='undorc: other is not the database of this session: undorc update -b other -l live carries it over\n'
 expect 0 '' "$told" '' check web -c ./ctl -b other -l live
 asked_of web
 expect 0 '' '' '' check web -c ./ctl -b nowhere -l live
 asked_of web
+expect 0 '' '' '' check web -c ./ctl -l live
+asked_of web
 rm -f asked
 wrong check
 wrong check -b made
-wrong check -l live web
+wrong check -l plain web
+says '^undorc: this command wants -b, or UNDORC_DB: plain has no database$'
 wrong check -c ./ctl -b made -l live -n
 wrong check -c ./ctl -b made -l live -r -r
 wrong check -c ./ctl -b made -l live -x none
@@ -231,7 +234,7 @@ are
 "$program" update -B next -c ./ctl -b made -l live -q > setup 2> setup.err
 expect 0 'raised more\nok\n' '' '' change more -c ./ctl -b next -l live
 are base=up more=down side=down web=up
-other='undorc: made is not the database of this session: undorc update -b made -l live -B made carries it over\n'
+other='undorc: made is not the database of this session: undorc update -b made -l live carries it over\n'
 expect 3 'more live, but down\n' '' '' check -c ./ctl -b next -l live
 asked_of base more new once side web
 expect 3 'more live, but down\n' "$other" '' check -c ./ctl -b made -l live

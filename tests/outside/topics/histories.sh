@@ -55,7 +55,7 @@ places() {
 told=''
 # not_of_session FILE: what is told of a file of -b that is not the database of the session
 not_of_session() {
-    printf 'undorc: %s is not the database of this session: undorc update -b %s -l live -B %s carries it over' "$1" "$1" "$1"
+    printf 'undorc: %s is not the database of this session: undorc update -b %s -l live carries it over' "$1" "$1"
 }
 tree_service one a
 tree_service one b a

@@ -285,7 +285,7 @@ expect 0 'lowered net root\nok\n' '' '' undo -x none -l live
 expect 0 'live\nok\n' '' 'live\n' session -x none
 session_text live > plain
 expect 1 '' 'undorc: Bad 0\n' '' live -b notes -l plain
-told='undorc: notes is not the database of this session: undorc update -b notes -l live -B notes carries it over\n'
+told='undorc: notes is not the database of this session: undorc update -b notes -l live carries it over\n'
 expect 0 'live\nok\n' "$told" '' live -b notes
 unset UNDORC_LIVE
 expect 0 'live\nok\n' '' '' live -l live

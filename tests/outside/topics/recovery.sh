@@ -171,7 +171,7 @@ expect 0 'live\nok\n' '' 'live\n' session -b base -l live -x none
 for named in foreign missing; do
     cp before live
     cp whole live.run
-    told="undorc: $named is not the database of this session: undorc update -b $named -l live -B $named carries it over\\n"
+    told="undorc: $named is not the database of this session: undorc update -b $named -l live carries it over\\n"
     [ -e "$named" ] || told=
     expect 0 'live a b\nok\n' "undorc: Recovered\n$told" 'live\n' session -b "$named" -l live -x none
 done

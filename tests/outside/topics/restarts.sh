@@ -134,15 +134,17 @@ goes 1 'refused Unknown nobody\n' 'at 1 of 2\n0 +db +log +net +root +web\nok\n' 
 wrong restart
 wrong restart -b base -l live
 wrong restart web -b base
-wrong restart web -l live
+wrong restart web -l plain
+says '^undorc: this command wants -b, or UNDORC_DB: plain has no database$'
 wrong restart -n -b base -l live
 wrong restart web -b base -l live -n -n
 wrong restart web -b base -l live -t 5
 
 # In a history its own database counts, whatever -b names.
-told='undorc: other is not the database of this session: undorc update -b other -l live -B other carries it over\n'
+told='undorc: other is not the database of this session: undorc update -b other -l live carries it over\n'
 expect 0 'lowered web\nok\nraised web\nok\n' "$told" '' restart web -b other -l live -x none
 expect 0 'lowered web\nok\nraised web\nok\n' '' '' restart web -b missing -l live -x none
+expect 0 'lowered web\nok\nraised web\nok\n' '' '' restart web -l live -x none
 expect 0 'at 1 of 2\n0 +db +log +net +root +web\nok\n' '' '' journal -b base -l live
 
 # By real scripts, each once, and in the order of needs.

@@ -68,7 +68,7 @@ printf '%b' "$none" > other
 echo 'bundles 0' > wrong
 for named in other wrong missing; do
     before
-    told="undorc: $named is not the database of this session: undorc update -b $named -l live -B $named carries it over\n"
+    told="undorc: $named is not the database of this session: undorc update -b $named -l live carries it over\n"
     [ -e "$named" ] || told=
     expect 0 'ok\n' "$told" '' seal -b "$named" -l live
     expect 0 'live db log net root web\nok\n' '' '' live -b base -l live
@@ -107,11 +107,15 @@ expect 0 'ok\n' 'undorc: Recovered\n' '' seal -b base -l live
 expect 0 'live db log net root\nok\n' '' '' live -b base -l live
 expect 0 'at 0 of 1\nok\n' '' '' journal -b base -l live
 
-# Both files must be named, and nothing else may be.
+# FILE must be named, and a database where FILE has none; nothing else may be.
 wrong seal
-says '^undorc: this command wants -b and -l'
+says '^undorc: -l is missing'
 wrong seal -b base
-wrong seal -l live
+cp live plain
+makes_plain plain
+wrong seal -l plain
+says '^undorc: this command wants -b, or UNDORC_DB: plain has no database$'
+expect 0 'ok\n' '' '' seal -l live
 wrong seal -b base -l live web
 wrong seal -b base -l live -x none
 UNDORC_DB=base UNDORC_LIVE=live expect 0 'ok\n' '' '' seal

@@ -70,7 +70,7 @@ expect 0 '' 'undorc: missing does not exist: nothing is up\n' '' status -b base 
 printf '%b' "$none" > other
 session_text live > plain
 expect 1 '' 'undorc: OtherDb\n' '' status -b other -l plain
-told='undorc: other is not the database of this session: undorc update -b other -l live -B other carries it over\n'
+told='undorc: other is not the database of this session: undorc update -b other -l live carries it over\n'
 expect 0 'net up\n' "$told" '' status net -b other -l live
 expect 1 '' 'undorc: Bad 0\n' '' status -b live -l base
 mkdir folder
@@ -79,7 +79,10 @@ expect 111 '' 'undorc: Io\n' '' status -b missing -l plain
 expect 0 'net up\n' '' '' status net -b missing -l live
 wrong status
 wrong status -b base
-wrong status -l live net
+wrong status -l plain net
+says '^undorc: this command wants -b, or UNDORC_DB: plain has no database$'
+wrong status -l missing
+expect 0 'net up\n' '' '' status net -l live
 wrong status -b base -l live -W
 wrong status -b base -l live -x none
 UNDORC_DB=base UNDORC_LIVE=live expect 0 'net up\n' '' '' status net

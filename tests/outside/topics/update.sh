@@ -7,7 +7,7 @@ cd updates
 # What is told where `-b` has another database than the session.
 # unused_base FILE: what is told of a file of -b that is not the database of the session
 unused_base() {
-    printf 'undorc: %s is not the database of this session: undorc update -b %s -l live -B %s carries it over' "$1" "$1" "$1"
+    printf 'undorc: %s is not the database of this session: undorc update -b %s -l live carries it over' "$1" "$1"
 }
 # service NAME NEEDS..: a oneshot in the folder `tree` whose scripts note what they do in `log`
 service() {
@@ -487,11 +487,12 @@ expect 111 '' 'undorc: Io\n' '' update -b old -B new -l .
 expect 111 '' 'undorc: Io\n' '' update -b old -B new -l nowhere/live
 
 # Wrong lines.
-wrong update -b old -l live
 wrong update -b old -B new -l live -f renames -f renames
 wrong update -b old -B new -l live -R
-wrong update -B new -l live
+wrong update -l live -x none
+says '^undorc: update wants -l, or UNDORC_LIVE, and a new database: -b, UNDORC_DB or -B$'
 wrong update -b old -B new
+wrong update -b new
 wrong update -b old -B new -l live a
 wrong update -b old -B new -l live -w 0
 wrong update -b old -B new -l live -w 65
@@ -500,6 +501,21 @@ wrong update -b old -B new -l live -x a
 wrong update -b old -B new -l live -u
 wrong update -b old -B new -B new -l live
 wrong update
+
+# The database of FILE is the old one. The new one is that of -B, or else that of -b.
+fresh
+wrong update -B new -x none -l live
+says '^undorc: this command wants -b, or UNDORC_DB: live has no database$'
+expect 1 '' 'undorc: OtherDb\n' '' update -b new -x none -l live
+"$program" seal -b old -l live > setup
+expect 0 'lowered b c e\nok\nraised b c\nok\n' '' '' update -B new -x none -l live
+expect 0 'lowered b c\nok\nraised b c\nok\n' '' '' update -b old -x none -l live
+expect 0 'ok\nok\n' '' '' update -b old -x none -l live
+expect 0 'lowered b c\nok\nraised b c\nok\n' '' '' undo -x none -l live
+expect 0 'lowered b c\nok\nraised b c e\nok\n' '' '' undo -x none -l live
+rm live
+wrong update -B new -x none -l live
+expect 0 'ok\nok\n' '' '' update -b new -x none -l live
 
 # The files that the environment names.
 fresh

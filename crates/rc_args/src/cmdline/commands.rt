@@ -136,9 +136,6 @@ fn arg_of<'a>(alloc: Global, told: &ToldArg) -> Arg<'a>
     match *told {
         ToldArg::Flag(id, letter, help) => flag(alloc, id, letter, help),
         ToldArg::Valued(id, letter, value, help) => option(alloc, id, letter, value, help),
-        ToldArg::Needed(id, letter, value, help) => option(alloc, id, letter, value, help).required(
-            true,
-        ),
         ToldArg::Repeated(id, letter, value, help) => repeated(alloc, id, letter, value, help),
         ToldArg::Long(id, value, help) => long_option(alloc, id, value, help),
         ToldArg::Query => query_argument(alloc),

@@ -1,5 +1,5 @@
 //! The commands of the program and their arguments, in the order of its help.
-use ToldArg::{Flag, Long, Needed, Query, Repeated, Valued, Words};
+use ToldArg::{Flag, Long, Query, Repeated, Valued, Words};
 
 /// An argument of a command.
 pub(crate) enum ToldArg {
@@ -7,9 +7,6 @@ pub(crate) enum ToldArg {
     Flag(&'static str, char, &'static str),
     /// An option: its id, its letter, the name of its value, and what help says of it.
     Valued(&'static str, char, &'static str, &'static str),
-    /// An option that must be given: its id, its letter, the name of its value, and what help says
-    /// of it.
-    Needed(&'static str, char, &'static str, &'static str),
     /// An option that may be repeated: its id, its letter, the name of its value, and what help
     /// says of it.
     Repeated(&'static str, char, &'static str, &'static str),
@@ -186,11 +183,11 @@ const LIMIT: ToldArg = Valued(
     "Begin no transition once so many milliseconds are over; with 0 it can't be called off",
 );
 
-const NEW: ToldArg = Needed(
+const NEW: ToldArg = Valued(
     "new",
     'B',
     "FILE",
-    "Carry what is up over to the database of this file",
+    "Carry what is up over to the database of this file, and not to that of -b",
 );
 
 const RENAMES: ToldArg = Valued(
