@@ -30,7 +30,7 @@ BLOCK = re.compile(r'(\.\\" made from docs/FORMATS\.md by make pages: text of (.
 TOLD = "crates/rc_args/src/cmdline/told.rt"
 SYNOPSIS = re.compile(rf'(\.\\" made from {TOLD} by make pages\n)(?:.*\n)*?(\.\\" end\n)')
 # The order of the options in the synopsis; others follow those of the names.
-ORDER = "base new restarts renames live wait force up down down-all prune all".split()
+ORDER = "base new restarts renames live generation wait force up down down-all prune all".split()
 BEHIND = "limit dry bound workers runner controller usual failing verbose progress output quiet".split()
 APART = ["up", "down", "down-all"]
 # Words of commands that are told otherwise.

@@ -23,6 +23,7 @@ class Case:
         self.own = b""
         self.down = False
         self.query = b""
+        self.generation = None
         self.words = []
         self.ask = None
         self.dry = False
@@ -70,6 +71,7 @@ class Case:
             words += [b"-b", b"base"]
         if self.word == "db":
             words += [b"-l", b"kept"] if self.keeps else []
+            words += [] if self.generation is None else [b"-k", b"%d" % self.generation]
             return words + [b"-d"] * self.down + [self.query] + self.words
         if self.word == "plan":
             return words + self.asked()

@@ -8,6 +8,7 @@ from commands import do, read_command, task_of
 from database import Database, Service, text_of
 from fields import EACH, FILES, LINES, SCRIPTS, WORDS
 from forms import Refusal, is_name
+from histories import Generation, History
 from live import OLD_BOUND, Line, State
 from live import text_of as live_text_of
 from replay import Trace, by_events
@@ -349,7 +350,8 @@ class Drawer:
         case.query = self.pick([b"check", b"list", b"atomics", b"dependencies", b"all-dependencies"] + one)
         if self.one_in(8):
             case.query = b"dot"
-            self.shown(case, base)
+        if self.one_in(2 if case.query == b"dot" else 6):
+            self.in_session(case, base)
         fit = lambda w: w and w[:1] != b"-" and b"\0" not in w and w != b"\xff"
         if case.query == b"list":
             case.words = [self.pick([b"all", b"services", b"oneshots", b"longruns", b"bundles"])]
@@ -361,13 +363,21 @@ class Drawer:
             case.own = self.pick([b"x", b"\xff\n", b"undorc-db 1\n"])
         return case
 
-    def shown(self, case, base):
-        """Gives a case the file of a session that a picture shows, perhaps."""
-        case.keeps = self.one_in(2)
-        if case.keeps and not self.one_in(8):
+    def in_session(self, case, base):
+        """Gives a query the file of a session, a live text or a history, which exists mostly, and perhaps a generation."""
+        case.keeps = True
+        if self.one_in(3):
+            case.generation = self.pick([0, 0, 1, 1, 2, 3, 8, 4294967295])
+        if self.one_in(8):
+            return
+        if self.one_in(2):
             case.kept = live_text_of(base, self.drawn_line(base, OLD_BOUND))
-            if self.one_in(4):
-                case.kept = self.mutated(case.kept)
+        else:
+            bases = [base if self.one_in(2) else self.base() for _ in range(self.pick([1, 1, 2, 3]))]
+            each = [Generation(text_of(one), self.drawn_line(one, OLD_BOUND), base=one) for one in bases]
+            case.kept = History(each, self.random.randrange(len(each)), False).written()
+        if self.one_in(4):
+            case.kept = self.mutated(case.kept)
 
     def plan(self):
         case = Case("plan")

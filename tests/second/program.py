@@ -201,6 +201,24 @@ def status(case, answer):
     answer.status = 3 if case.words and asked - now.live else 0
 
 
+def query(case, answer):
+    """A query of the database of -b, or of one in the file of -l: the present one, or that of -k. A picture of any but
+    that of -k fills what is up."""
+    if case.generation is not None or histories.is_history(case.kept):
+        history = histories.read(case.kept) if histories.is_history(case.kept) else None
+        place = case.generation if case.generation is not None else history.at
+        if history is None or place >= len(history.generations):
+            raise Refusal("NoGeneration", place)
+        base, text = history.generations[place].base, history.generations[place].read_line
+    else:
+        base, text = base_and_input(case)[0], case.kept
+    if case.query != b"dot":
+        answer.out = queries.answer(base, case.down, case.query, case.words)
+        return
+    fills = text is not None and case.generation is None
+    answer.out = queries.picture(base, live.read(base, text).now().live if fills else ())
+
+
 def run_of(case, answer):
     if case.word == "compile":
         answer.out = database.text_of(sources.compile_trees(case.trees))
@@ -217,13 +235,11 @@ def run_of(case, answer):
     if case.word == "update":
         updates.update(case, answer, doing(case, answer))
         return
+    if case.word == "db":
+        query(case, answer)
+        return
     base, text = base_and_input(case)
-    if case.word == "db" and case.query == b"dot":
-        shown = live.read(base, case.kept).now().live if case.kept is not None else ()
-        answer.out = queries.picture(base, shown)
-    elif case.word == "db":
-        answer.out = queries.answer(base, case.down, case.query, case.words)
-    elif case.word == "replay":
+    if case.word == "replay":
         answer.out = replay.replay(base, text)
     else:
         now = read_live(base, text)

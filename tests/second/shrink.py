@@ -72,11 +72,12 @@ def with_part(case, part, value):
 
 
 def smaller(case):
-    parts = [("kept", None), ("bound", None), ("keeps", False), ("failing", []), ("restarts", []), ("renames", None)]
+    parts = [("kept", None), ("bound", None), ("generation", None), ("keeps", False), ("failing", []), ("restarts", []), ("renames", None)]
     for part, less in parts + [("workers", None), ("limit", 0), ("force", False)]:
         if part in ("kept", "keeps") and is_history(case.kept):
             continue
-        if getattr(case, part) != less and not (part == "keeps" and (case.kept or case.word in KEEPING)):
+        wants = case.kept or case.generation is not None or case.word in KEEPING
+        if getattr(case, part) != less and not (part == "keeps" and wants):
             yield with_part(case, part, less)
     for text in parts_of_lines(case.own):
         yield with_part(case, "own", text)
@@ -119,7 +120,7 @@ def shrunk(case, differs, tries=3000):
 
 def size(case):
     kept = len(case.kept) + 1 if case.kept is not None else 0
-    flags = (case.bound is not None) + case.keeps + (case.workers is not None) + (case.limit > 0) + case.force
+    flags = (case.bound is not None) + (case.generation is not None) + case.keeps + (case.workers is not None) + (case.limit > 0) + case.force
     words = sum(len(w) + 1 for w in case.words) + sum(len(n) + 1 for _, n in case.failing)
     bases = len(case.base or b"") + len(case.other or b"")
     return bases + len(case.own) + kept + flags + words + len(repr(case.trees))

@@ -1,16 +1,15 @@
 -- What the words ask of `db`, by the matches that `clap` makes of them.
-use Rattle.std.proofs.Common.{◌≡◌, ◌∙◌, ◌<◌, Bor, List, rules, [], ◌∷◌, Option, None, Some, IfNone}
-use Rattle.std.proofs.Common.{IfSome, ap, arith, length, map, refl, sym, subst, codes}
-use Rattle.std.proofs.lemmas.Option.{IfSome_then}
+use Rattle.std.proofs.Common.{◌≡◌, ◌∙◌, ◌<◌, ℕ, Bor, List, [], ◌∷◌, Option, None, Some, IfNone}
+use Rattle.std.proofs.Common.{IfErr, IfOk, IfSome, Result, ap, arith, length, map, refl, sym}
+use Rattle.std.proofs.Common.{subst, codes}
 use Rattle.std.specs.Option.{option_map_or}
 use Rattle.clap.specs.Words.{Row, Text, first_of}
-use Rattle.rc_args.specs.DbAsked.{AsksIn, AsksNothing, DbAsk, ShowsByPicture, ask_by, query_words}
+use Rattle.rc_args.specs.DbAsked.{AsksIn, AsksNothing, DbAsk, HasGeneration, ask_by, query_words}
+use Rattle.rc_args.specs.Limits.{IsGenerationIn}
 use Rattle.rc_args.specs.Query.{Check, Dot, ListOf, OfName, OfNames, Question, question_of}
 use Rattle.rc_args.specs.Query.{words_of_query}
-use Rattle.rc_args.specs.declared.cmdline.query_words.NamesQuery.{NamesQuery}
 use Rattle.rc_args.specs.declared.db_words.Query.{Query}
 use Rattle.rc_args.specs.Words.{rows_for, words_in}
-use Rattle.rc_args.specs.QueryWords.{names_word}
 
 -- words without matches of `db` ask nothing
 pub asked_none : (words : List Text) → rows_for (codes "db") words ≡ None → AsksNothing words
@@ -57,39 +56,33 @@ pub alone : (word text : Text) (words : List (Bor Text)) → length words < 1 �
 alone word text [] few is = ap (λ w. w ∷ []) is
 alone word text (w ∷ words) few is = absurd (omega arith)
 
--- what is asked by matches is asked by them for its own question, and is spelled as that
-pub with_options : (rows : List Row) (question : Question) (given : DbAsk)
-    → given ≡ ask_by rows question → given ≡ ask_by rows given.question
-with_options rows question given is =
-    is ∙ ap (ask_by rows) (sym (ap (λ (a : DbAsk). a.question) is))
+-- what is asked by matches, with the words of its question and a generation that they name
+pub with_options : (rows : List Row) (question : Question) (generation : Option ℕ) (given : DbAsk)
+    → given ≡ ask_by rows question generation → query_words rows ≡ words_of_query question
+    → HasGeneration rows generation → AsksIn rows given
+with_options rows question generation given is words named =
+    subst (AsksIn rows) (sym is) (words, refl, named)
 
-pub spelled_so : (rows : List Row) (question : Question) (given : DbAsk)
-    → given ≡ ask_by rows question → query_words rows ≡ words_of_query question
-    → query_words rows ≡ words_of_query given.question
-spelled_so rows question given is words =
-    words ∙ sym (ap (λ (a : DbAsk). words_of_query a.question) is)
+-- where no generation is one that the matches name, they ask nothing
+pub no_generation : (rows : List Row)
+    → ((generation : Option ℕ) → HasGeneration rows generation → ⊥) → (ask : DbAsk)
+    → AsksIn rows ask → ⊥
+no_generation rows never ask asks = never ask.generation asks.2
 
--- no query of any number of names has the picture's word
-no_picture : (query : NamesQuery) → codes "dot" ≡ names_word query → ⊥
-no_picture query is = search rules
+-- what says of texts that they name a generation says it of the same texts
+pub named_as : {E : Type 0} (result : Result (Option ℕ) E) (given live got held : Option Text)
+    → given ≡ got → live ≡ held → IfOk result (IsGenerationIn given live)
+    → IfOk result (IsGenerationIn got held)
+named_as result given live got held same alike named =
+    subst (λ (file : Option Text). IfOk result (IsGenerationIn got file)) alike
+    (subst (λ (text : Option Text). IfOk result (IsGenerationIn text live)) same named)
 
--- one word of the picture's, and no word of another question, is a question's spelling
-pub picture_alone : (question : Question) → words_of_query Dot ≡ words_of_query question
-    → question ≡ Dot
-picture_alone Check e = cc
-picture_alone Dot e = refl
-picture_alone (ListOf which) e = cc
-picture_alone (OfName query name) e = cc
-picture_alone (OfNames query names) e =
-    let same : codes "dot" ≡ names_word query = cc in absurd (no_picture query same)
-
--- where the matches ask something, what was found in them shows a session by a picture alone
-pub shown_by_picture : (rows : List Row) (given : DbAsk)
-    → query_words rows ≡ words_of_query given.question → given ≡ ask_by rows given.question
-    → (ShowsByPicture given → ⊥) → (ask : DbAsk) → AsksIn rows ask → ⊥
-shown_by_picture rows given words options never ask asks =
-    let live : ask.live ≡ given.live =
-    ap (λ (a : DbAsk). a.live) asks.1 ∙ sym (ap (λ (a : DbAsk). a.live) options) in
-    never (subst (λ (o : Option Text). IfSome o (λ file. given.question ≡ Dot)) live
-    (IfSome_then ask.live asks.2
-    (λ file is. picture_alone given.question (sym (ap words_of_query is) ∙ sym asks.0 ∙ words))))
+pub unnamed_as : {E : Type 0} (result : Result (Option ℕ) E) (given live got held : Option Text)
+    → given ≡ got → live ≡ held
+    → IfErr result (λ fault. (generation : Option ℕ) → IsGenerationIn given live generation → ⊥)
+    → IfErr result (λ fault. (generation : Option ℕ) → IsGenerationIn got held generation → ⊥)
+unnamed_as result given live got held same alike never =
+    subst (λ (file : Option Text). IfErr result (λ fault. (generation : Option ℕ)
+    → IsGenerationIn got file generation → ⊥)) alike
+    (subst (λ (text : Option Text). IfErr result (λ fault. (generation : Option ℕ)
+    → IsGenerationIn text live generation → ⊥)) same never)

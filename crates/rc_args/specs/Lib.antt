@@ -14,10 +14,10 @@ pub mod CommandWords
 pub mod Asked
 -- What may be asked of a database, and the words that ask it.
 pub mod Query
+-- The numbers of milliseconds among the words, that of a state, and that of a generation.
+pub mod Limits
 -- What the words ask of `db`.
 pub mod DbAsked
--- The numbers of milliseconds among the words.
-pub mod Limits
 -- Lists of transitions as an option spells them: the words between commas.
 pub mod Listed
 -- How the transitions of a session are made, by its options.

@@ -1,5 +1,5 @@
--- The numbers of milliseconds among the words, and that of a state.
-use Rattle.std.specs.Prelude.{◌≡◌, ◌<◌, ◌^◌, ℕ, Bool, false, Option, None, Some}
+-- The numbers of milliseconds among the words, that of a state, and that of a generation.
+use Rattle.std.specs.Prelude.{◌≡◌, ◌<◌, ◌^◌, ℕ, Bool, false, Option, None, Some, IsSome}
 use Rattle.std.specs.Str.Parse.{IsNumeral, digits_value, without_leading_plus}
 use Rattle.clap.specs.Words.{Text}
 
@@ -25,3 +25,10 @@ abbrev pub IsStateIn : Option Text → (dry : Bool) → Option ℕ → Type 0
 IsStateIn None dry to = to ≡ None
 IsStateIn (Some text) dry to =
     (dry ≡ false) × ((state : ℕ) × SpellsLimit text state × (to ≡ Some state))
+
+-- the generation that is given, if one is: a number, which is spelled as one of milliseconds, where
+-- the file that holds it is given, too
+abbrev pub IsGenerationIn : Option Text → (live : Option Text) → Option ℕ → Type 0
+IsGenerationIn None live generation = generation ≡ None
+IsGenerationIn (Some text) live generation =
+    IsSome live × ((place : ℕ) × SpellsLimit text place × (generation ≡ Some place))

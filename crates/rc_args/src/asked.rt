@@ -31,8 +31,10 @@ pub enum WordsFault {
     Ways,
     /// They ask no question of a database.
     Query,
-    /// They name the file of a session, and ask for no picture.
+    /// They name a generation, and not the file of the session that holds it.
     Live,
+    /// The generation that they name is no number.
+    Generation,
     /// They name no file of a session, or none of a new database, and an update wants both.
     Files,
     /// They name no file of the session whose command is to be called off.
@@ -178,7 +180,8 @@ fn words_of(fault: &WordsFault) -> &'static str {
         WordsFault::Query => {
             "db has no such query, or it takes other words; `undorc db --help` lists the queries"
         }
-        WordsFault::Live => "-l of db goes with the query dot alone",
+        WordsFault::Live => "-k of db wants -l",
+        WordsFault::Generation => "-k of db wants a number from 0 to 4294967295",
         WordsFault::Files => {
             "update wants -l, or UNDORC_LIVE, and a new database: -b, UNDORC_DB or -B"
         }

@@ -1,10 +1,10 @@
 //! The arguments of `db`.
-ghost use Rattle.std.specs.Prelude.{◌≡◌, ◌≢◌, ◌↔◌, ◌∷◌, [], codes, if◌then◌else◌, map};
-ghost use Rattle.std.specs.Prelude.{string_bytes, IfErr, IfNone, IfOk, IfSome, IsTrue};
+ghost use Rattle.std.specs.Prelude.{◌≡◌, ◌≢◌, ◌∷◌, ℕ, [], codes, if◌then◌else◌, map, None};
+ghost use Rattle.std.specs.Prelude.{Option, string_bytes, IfErr, IfNone, IfOk, IfSome};
 ghost use Rattle.clap.specs.Words.{found_of, rows_of};
-ghost use Rattle.rc_args.specs.DbAsked.{AsksDb, AsksIn, AsksNothing, DbAsk, ShowsByPicture};
+ghost use Rattle.rc_args.specs.DbAsked.{AsksDb, AsksIn, AsksNothing, DbAsk, HasGeneration};
 ghost use Rattle.rc_args.specs.DbAsked.{ask_by, db_ask_of};
-ghost use Rattle.rc_args.specs.Query.{Dot, Question, list_word, question_of, words_of_query};
+ghost use Rattle.rc_args.specs.Query.{Question, list_word, question_of, words_of_query};
 ghost use Rattle.rc_args.specs.QueryWords.{names_word};
 ghost use Rattle.rc_args.specs.Words.{words_in};
 ghost use Rattle.rc_args.specs.declared.asked.WordsFault.TheVariants.{Memory};
@@ -13,6 +13,7 @@ ghost use Rattle.rc_db.specs.declared.which.Which.{Which as Sort};
 
 use crate::asked::WordsFault;
 use crate::cmdline::{NameQuery, NamesQuery, is_on, name_query, names_query};
+use crate::limits::generation_of;
 use crate::matched::{command_in, matches_in};
 use crate::texts::{strings_of, text_in};
 use clap::ArgMatches;
@@ -26,19 +27,24 @@ pub struct DbRequest<'a> {
     pub query: Query<'a>,
     /// The way of the query, where it has one.
     pub way: Way,
-    /// The file of the session whose live services a picture shows.
+    /// The file of a session: its database is asked if a history stands there, and a picture shows
+    /// its live services.
     pub live: Option<&'a str>,
+    /// The generation of the history whose database is asked, if not the present one. Then nothing
+    /// live is shown.
+    pub generation: Option<u32>,
 }
 
 impl<'a> DbRequest<'a> {
     /// Creates the request of a query without options.
     pub fn of(query: Query<'a>) -> DbRequest<'a>
-        ensures { db_ask_of result ≡ ask_by [] (question_of query.entry) }
+        ensures { db_ask_of result ≡ ask_by [] (question_of query.entry) None }
     {
         DbRequest {
             query,
             way: Way::Raise,
             live: None,
+            generation: None,
         }
     }
 }
@@ -95,40 +101,43 @@ pub(crate) fn db_in<'a>(
         return Err(WordsFault::Query);
     };
     match query_in(alloc, word, matches)? {
-        Some(query) => shown(request_in(query, matches)),
+        Some(query) => request_in(query, matches),
         None => Err(WordsFault::Query),
     }
 }
 
 // Creates a request from a query and the options of the matches.
-fn request_in<'a>(query: Query<'a>, matches: &ArgMatches<'a>) -> DbRequest<'a>
-    ensures { db_ask_of result ≡ ask_by (rows_of (found_of matches.now)) (question_of query.entry) }
+fn request_in<'a>(query: Query<'a>, matches: &ArgMatches<'a>) -> Result<DbRequest<'a>, WordsFault>
+    ensures asked { IfOk result (λ request. (db_ask_of request
+        ≡ ask_by (rows_of (found_of matches.now)) (question_of query.entry) request.generation)
+        × HasGeneration (rows_of (found_of matches.now)) request.generation) }
+    ensures wrong { IfErr result (λ fault. (generation : Option ℕ) →
+        HasGeneration (rows_of (found_of matches.now)) generation → ⊥) }
 {
-    DbRequest {
-        query,
-        way: way_of(is_on(matches, "down")),
-        live: text_in(matches, "live"),
+    match generation_in(matches) {
+        Ok(generation) => Ok(DbRequest {
+            query,
+            way: way_of(is_on(matches, "down")),
+            live: text_in(matches, "live"),
+            generation,
+        }),
+        Err(fault) => {
+            drop(query);
+            Err(fault)
+        }
     }
 }
 
-// Returns the request unchanged. Fails if it names a session to show, but its query is not the
-// picture.
-fn shown<'a>(request: DbRequest<'a>) -> Result<DbRequest<'a>, WordsFault>
-    ensures asked { IfOk result (λ same. (same ≡ request.entry)
-        × ShowsByPicture (db_ask_of request.entry)) }
-    ensures wrong { IfErr result (λ fault. ShowsByPicture (db_ask_of request.entry) → ⊥) }
+// Returns the generation that the matches name, if they name one. Fails if they name no file of a
+// session besides, or if it is no number.
+fn generation_in(matches: &ArgMatches<'_>) -> Result<Option<u32>, WordsFault>
+    ensures asked { IfOk result (HasGeneration (rows_of (found_of matches.now))) }
+    ensures wrong { IfErr result (λ fault. (generation : Option ℕ) →
+        HasGeneration (rows_of (found_of matches.now)) generation → ⊥) }
 {
-    if request.live.is_some() && !is_picture(&request.query) {
-        return Err(WordsFault::Live);
-    }
-    Ok(request)
-}
-
-// Returns true if a query is the one for a picture.
-fn is_picture(query: &Query<'_>) -> bool
-    ensures { IsTrue result ↔ (question_of query.now ≡ Dot) }
-{
-    matches!(query, Query::Dot)
+    let given = text_in(matches, "generation");
+    let live = text_in(matches, "live");
+    generation_of(given, live)
 }
 
 // Returns the way of a query: down if the flag for it is set, and up otherwise.

@@ -1,6 +1,7 @@
-//! Numbers of milliseconds among the words, and that of a state.
+//! Numbers of milliseconds among the words, that of a state, and that of a generation.
 ghost use Rattle.std.specs.Prelude.{◌≢◌, ℕ, Option, option_map, IfErr, IfNone, IfOk, IfSome};
-ghost use Rattle.rc_args.specs.Limits.{IsLimitIn, IsRunLimitIn, IsStateIn, SpellsLimit};
+ghost use Rattle.rc_args.specs.Limits.{IsGenerationIn, IsLimitIn, IsRunLimitIn, IsStateIn};
+ghost use Rattle.rc_args.specs.Limits.{SpellsLimit};
 ghost use Rattle.rc_args.specs.declared.asked.WordsFault.TheVariants.{Memory};
 
 use crate::asked::WordsFault;
@@ -49,6 +50,30 @@ pub(crate) fn state_of(given: Option<&str>, is_dry: bool) -> Result<Option<u32>,
     match number_of(text) {
         Some(state) => Ok(Some(state)),
         None => Err(WordsFault::State),
+    }
+}
+
+/// Parses the generation of a history, if one is given. Fails if the file of the history is not
+/// given, or if the text is no number.
+pub(crate) fn generation_of(
+    given: Option<&str>,
+    live: Option<&str>,
+) -> Result<Option<u32>, WordsFault>
+    ensures asked { IfOk result (IsGenerationIn (option_map (λ text. text.now) given.entry)
+        (option_map (λ text. text.now) live.entry)) }
+    ensures wrong { IfErr result (λ fault. (generation : Option ℕ) →
+        IsGenerationIn (option_map (λ text. text.now) given.entry)
+        (option_map (λ text. text.now) live.entry) generation → ⊥) }
+{
+    let Some(text) = given else {
+        return Ok(None);
+    };
+    if live.is_none() {
+        return Err(WordsFault::Live);
+    }
+    match number_of(text) {
+        Some(place) => Ok(Some(place)),
+        None => Err(WordsFault::Generation),
     }
 }
 

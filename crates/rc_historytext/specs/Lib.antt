@@ -12,7 +12,7 @@ pub mod HistoryFaultWord
 pub mod Moves
 -- What the session of a generation says, by names.
 pub mod States
--- The present generation of a history, and where it stands.
+-- The present generation of a history, and where it stands; the database of any generation.
 pub mod Present
 -- The marks of the ends of the present generation after a command, and which ends are still there.
 pub mod Marking

@@ -1,6 +1,6 @@
--- The present generation of a history, and where it stands.
+-- The present generation of a history, and where it stands; the database of any generation.
 use Rattle.std.specs.Prelude.{◌≡◌, ◌-◌, ◌==◌, ◌&&◌, ◌||◌, ℕ, Bool, true, false, nat_lt}
-use Rattle.std.specs.Prelude.{List, length, Some, slice_get}
+use Rattle.std.specs.Prelude.{List, length, Option, Some, option_map, slice_get}
 use Rattle.rc_livetext.specs.Text.{LiveText}
 use Rattle.rc_historytext.specs.Text.{GenerationText, HistoryText, IsHistoryText, history_text}
 use Rattle.rc_historytext.specs.States.{IsSession}
@@ -16,6 +16,14 @@ abbrev pub IsPresent : List ℕ → (database session : List ℕ) → Type 0
 IsPresent bytes database session =
     (t : HistoryText) × (g : GenerationText) × IsAt bytes t g
     × (g.database ≡ database) × (g.session ≡ session)
+
+-- the bytes are the text of a history of so many generations, and this is the database of the one
+-- at a place, if there is one
+abbrev pub HoldsAt : List ℕ → (place count : ℕ) → Option (List ℕ) → Type 0
+HoldsAt bytes place count database =
+    (t : HistoryText) × IsHistoryText t × (bytes ≡ history_text t)
+    × (count ≡ length t.generations)
+    × (database ≡ option_map (λ g. g.database) (slice_get t.generations place))
 
 -- where a history stands: the texts of the present generation; how many generations and states
 -- come before and after; whether an undo and a redo go on from its first state and from its last

@@ -30,7 +30,9 @@ pub use crate::forms::{GenerationForm, HistoryForm, RenameForm};
 pub use crate::framed::Framed;
 pub use crate::keeping::{Keeping, keep_session};
 pub use crate::read::read_history;
-pub use crate::standing::{Present, Standing, is_history, present_of, standing_of};
+pub use crate::standing::{
+    Held, Present, Standing, database_at, is_history, present_of, standing_of,
+};
 pub use crate::states::states_around;
 pub use crate::updating::{cross_border, enter_generation, new_history, settle_state};
 pub use crate::write::write_history;

@@ -1,11 +1,11 @@
 //! Where a history stands: the texts of its present generation, the generations and the states on
-//! both sides, and whether an undo and a redo go on from there.
+//! both sides, and whether an undo and a redo go on from there. And the database of any generation.
 //!
 //! Time and memory grow with the lines outside the texts and, for `standing_of`, also with the text
 //! of the present session.
-ghost use Rattle.std.specs.Prelude.{◌≡◌, ◌||◌, IfErr, IfOk};
+ghost use Rattle.std.specs.Prelude.{◌≡◌, ◌||◌, option_map, IfErr, IfOk};
 ghost use Rattle.rc_historytext.specs.Faults.{IsHistoryFault};
-ghost use Rattle.rc_historytext.specs.Present.{IsPresent, StandsAt, crosses, has_inside};
+ghost use Rattle.rc_historytext.specs.Present.{HoldsAt, IsPresent, StandsAt, crosses, has_inside};
 ghost use Rattle.rc_historytext.specs.Present.{passes, passes_next};
 ghost use Rattle.rc_historytext.specs.CallFaults.{IsStandingFault};
 
@@ -20,6 +20,14 @@ use std::marker::Model;
 pub struct Present<'a> {
     pub database: &'a [u8],
     pub session: &'a [u8],
+}
+
+/// The database of one generation of a history, if the history has that generation, and how many
+/// generations it has.
+#[derive(Clone, Copy, Drop)]
+pub struct Held<'a> {
+    pub count: usize,
+    pub database: Option<&'a [u8]>,
 }
 
 /// Where a history stands.
@@ -127,6 +135,27 @@ pub fn present_of<'a>(alloc: Global, history: &'a [u8]) -> Result<Present<'a>, H
     };
     drop(form);
     Ok(present)
+}
+
+/// Returns the database of the generation at a place of a history. Places count from 0, the oldest
+/// generation first.
+pub fn database_at<'a>(
+    alloc: Global,
+    history: &'a [u8],
+    place: u32,
+) -> Result<Held<'a>, HistoryFault>
+    ensures ok { IfOk result (λ held.
+        HoldsAt history.now place held.count (option_map (λ d. d.now) held.database)) }
+    ensures fault { IfErr result (IsHistoryFault history.now) }
+{
+    let form = read_history(alloc, history)?;
+    let count = form.generations.len();
+    let database = match form.generations.get(place as usize) {
+        Some(generation) => Some(generation.database),
+        None => None,
+    };
+    drop(form);
+    Ok(Held { count, database })
 }
 
 /// Returns the standing of a history, given its text.

@@ -159,6 +159,78 @@ does 0 'lowered b\nok\nraised b c\nok\n' 'down b one\nup b two\nup c two\n' upda
 does 0 'lowered b c\nok\nok\n' 'down b two\ndown c two\n' update -b two.db -B three.db
 places 'at 2 of 3\ngeneration stop passed\ngeneration passed passed\ngeneration stop stop\n'
 stands_on three ' a'
+
+# A query with -l asks the present database, or that of -k, whatever -b names; with -k a picture fills nothing. The file is
+# only read.
+cp live good
+expect 0 'a\ne\n' '' '' db -l live list all
+expect 0 'a\ne\n' '' '' db -l live -b one.db list all
+expect 0 'a\ne\n' '' 'nothing\n' db -l live -b nowhere.db list all
+UNDORC_DB=two.db expect 0 'a\ne\n' '' '' db -l live list all
+UNDORC_LIVE=live expect 0 'a\nb\nc\n' '' '' db -b one.db list all
+expect 0 '' '' '' db -l live check
+expect 0 'a\n' '' '' db -l live dependencies e
+expect 0 'a\ne\n' '' '' db -l live -d all-dependencies a
+expect 1 '' 'undorc: Unknown b\n' '' db -l live type b
+expect 0 'a\nb\nc\n' '' '' db -l live -k 0 list all
+expect 0 'a\nb\nc\nd\n' '' '' db -l live -k 1 list all
+expect 0 'a\nb\nc\nd\n' '' '' db -l live -b one.db -k +1 list all
+expect 0 'a\ne\n' '' '' db -l live -k 2 list all
+expect 0 'a\n' '' '' db -l live -k 0 dependencies b
+expect 0 'a\nc\n' '' '' db -l live -k 01 dependencies b
+expect 1 '' 'undorc: Unknown d\n' '' db -l live -k 0 type d
+for number in 3 8 4294967295; do
+    expect 1 '' "undorc: NoGeneration $number\n" '' db -l live -k "$number" list all
+done
+"$program" db -l live -k 3 check 2> err || true
+says '^  live holds 3 databases, of generations 0 to 2$'
+expect 1 '' 'undorc: NoGeneration 3\n' '' db -l live -b one.db -k 3 dot
+for number in 0 1 2; do
+    "$program" db -l live -k "$number" dot > out
+    case $number in
+        0) "$program" db -b one.db dot > out.wanted ;;
+        1) "$program" db -b two.db dot > out.wanted ;;
+        2) "$program" db -b three.db dot > out.wanted ;;
+    esac
+    : > err
+    : > err.wanted
+    echo 0 > status
+    judge "undorc db -l live -k $number dot" 0
+done
+"$program" db -l live dot > out
+grep -c 'style=filled' out > filled
+: > err
+echo 0 > status
+mv filled out
+wants '1\n' ''
+judge 'the services that a picture of the present database fills' 0
+
+# A file that is missing, or holds no history, has no generation, and a query without -k asks -b. Only a picture looks at
+# the text of a session.
+printf '%b' 'undorc-live 2\nservices a b c\nbound 8\nnow a\nend\n' > plain
+for file in nowhere plain one.db; do
+    expect 1 '' 'undorc: NoGeneration 0\n' '' db -l "$file" -b one.db -k 0 check
+    expect 1 '' 'undorc: NoGeneration 0\n' '' db -b one.db -l "$file" -k 0 dot
+    expect 0 'a\nb\nc\n' '' '' db -l "$file" -b one.db list all
+    expect 1 '' 'undorc: Unknown d\n' '' db -l "$file" -b one.db type d
+done
+UNDORC_DB=one.db expect 0 'a\nb\nc\n' '' '' db -l plain list all
+expect 1 '' 'undorc: Bad 0\n' 'undorc-live 2\n' db -l plain list all
+expect 1 '' 'undorc: Bad 0\n' '' db -b one.db -l one.db dot
+expect 111 '' 'undorc: Io\n' '' db -b one.db -l . list all
+expect 111 '' 'undorc: Io\n' '' db -b one.db -l . -k 0 list all
+sed '1s/1$/2/' good > plain
+expect 1 '' 'undorc: Version\n' '' db -b one.db -l plain check
+expect 1 '' 'undorc: Version\n' '' db -b one.db -l plain -k 0 check
+: > out
+cmp -s live good || echo altered > out
+: > out.wanted
+: > err
+: > err.wanted
+echo 0 > status
+judge 'the file of a session that queries have read' 0
+rm good plain
+
 does 0 'raised b c\nok\n' 'up b two\nup c two\n' undo -b three.db
 stands_on two ' a b c'
 does 0 'lowered b c\nok\nraised b\nok\n' 'down b two\ndown c two\nup b one\n' undo -b two.db

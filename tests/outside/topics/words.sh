@@ -52,10 +52,20 @@ wrong db check x
 wrong db dot web
 wrong db dot -W
 wrong db dot -l
-wrong db -l base check
-says '^undorc: -l of db goes with the query dot alone$'
-wrong db list all -l base
-wrong db -b base -l base -d dependencies web
+wrong db list all -k 0
+says '^undorc: -k of db wants -l$'
+wrong db -b base -k 0 dot
+wrong db -k x check
+says '^undorc: -k of db wants -l$'
+wrong db -l base -k x list all
+says '^undorc: -k of db wants a number from 0 to 4294967295$'
+wrong db -l base -k -1 list all
+wrong db -l base -k 4294967296 dot
+wrong db -l base -k '' check
+wrong db -l base -k
+wrong db -l base -k 0 -k 0 check
+wrong db -l base -l base check
+UNDORC_LIVE=base wrong db -b base -k 0 check
 wrong db type
 wrong db type web web
 wrong db timeout

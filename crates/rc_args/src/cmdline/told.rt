@@ -52,7 +52,7 @@ const COMPILE: [ToldArg; 3] = [
     ),
 ];
 
-const DB: [ToldArg; 5] = [
+const DB: [ToldArg; 6] = [
     BASE,
     Flag(
         "down",
@@ -63,7 +63,13 @@ const DB: [ToldArg; 5] = [
         "live",
         'l',
         "FILE",
-        "With dot: fill what is up in the session that this file holds",
+        "Ask the database in the session that this file holds; dot fills what is up in it",
+    ),
+    Valued(
+        "generation",
+        'k',
+        "K",
+        "With -l: ask the database of this generation, from 0; dot fills nothing",
     ),
     Query,
     Words(0, "WORD", "The names that it is asked of"),

@@ -20,8 +20,8 @@ use std::io::{Read, Write};
 ///
 /// The database is `base`, if there is one, and then nothing is read. Otherwise the database is the
 /// beginning of the input, and the rest of the input is ignored. The answer is written to `writer`,
-/// and the reason why there is none to `faults`. No file is read: a picture fills nothing, whatever
-/// `-l` names.
+/// and the reason why there is none to `faults`. No file is read, whatever `-l` and `-k` name:
+/// `base` is asked, and a picture fills nothing.
 pub fn db_run<R: Read, W: Write, F: Write>(
     alloc: Global,
     words: &[String],

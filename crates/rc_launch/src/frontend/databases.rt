@@ -6,6 +6,35 @@ use rc_compile::command::diagnostics::{
 use rc_names::NoMem;
 use std::alloc::Global;
 
+/// Where a database stands.
+#[derive(Clone, Copy)]
+pub enum Place<'a> {
+    /// At the beginning of standard input.
+    Input,
+    /// In the file of `-b`.
+    File(&'a str),
+    /// In the file of `-l`: that of the present generation, or of the one of `-k`.
+    Session(&'a str, Option<u32>),
+}
+
+impl<'a> Place<'a> {
+    /// Returns the place of a database in the file of `-b`, or on standard input without one.
+    pub fn of(file: Option<&'a str>) -> Place<'a> {
+        match file {
+            Some(path) => Place::File(path),
+            None => Place::Input,
+        }
+    }
+
+    /// Returns the path of the file, if it is one.
+    pub fn path(self) -> Option<&'a str> {
+        match self {
+            Place::Input => None,
+            Place::File(path) | Place::Session(path, _) => Some(path),
+        }
+    }
+}
+
 /// A kind of text, as hints name it.
 struct Form {
     front: &'static [u8],
@@ -115,13 +144,13 @@ fn not_due(bytes: &[u8], offset: usize) -> &'static str {
 
 /// Returns the hint for an unknown name: the name of a database that may have been meant, or the
 /// command that prints all names of the file of the database.
-pub fn near_hint(alloc: Global, file: Option<&str>, database: &[u8], name: &str) -> Hint {
+pub fn near_hint(alloc: Global, place: Place<'_>, database: &[u8], name: &str) -> Hint {
     let mut rest = database;
     for _ in 0..database.len() {
         let (line, behind) = next_line(rest);
         rest = behind;
         if line == "end" {
-            return no_name(alloc, file, name);
+            return no_name(alloc, place, name);
         }
         if let Some(("service" | "bundle", words)) = line.split_once(' ') {
             let near = first_word(words);
@@ -136,18 +165,30 @@ pub fn near_hint(alloc: Global, file: Option<&str>, database: &[u8], name: &str)
     Ok(None)
 }
 
-/// Returns the hint that nothing has a name in the database of a file or of standard input.
-fn no_name(alloc: Global, file: Option<&str>, name: &str) -> Hint {
-    let Some(path) = file else {
-        return hint_of(
-            alloc,
-            "nothing is named ",
-            name,
-            " in the database on standard input",
-        );
+/// Returns the hint that nothing has a name in the database at a place.
+fn no_name(alloc: Global, place: Place<'_>, name: &str) -> Hint {
+    let command = match place {
+        Place::Input => {
+            return hint_of(
+                alloc,
+                "nothing is named ",
+                name,
+                " in the database on standard input",
+            );
+        }
+        Place::File(path) => {
+            let path = ForShell(path);
+            format!(in alloc; "; undorc db -b {path} list all prints the names")?
+        }
+        Place::Session(path, None) => {
+            let path = ForShell(path);
+            format!(in alloc; "; undorc db -l {path} list all prints the names")?
+        }
+        Place::Session(path, Some(generation)) => {
+            let path = ForShell(path);
+            format!(in alloc; "; undorc db -l {path} -k {generation} list all prints the names")?
+        }
     };
-    let path = ForShell(path);
-    let command = format!(in alloc; "; undorc db -b {path} list all prints the names")?;
     let hint = hint_of(alloc, "nothing is named ", name, command.as_str());
     drop(command);
     hint

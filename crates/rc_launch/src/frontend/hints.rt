@@ -1,6 +1,8 @@
 //! The lines after a fault, for people: where it is, and what helps. They change no status, and
 //! where nothing is found, or memory is short, there are none.
-use crate::frontend::databases::{behind_end, database_hint, lacking_hint, live_hint, near_hint};
+use crate::frontend::databases::{
+    Place, behind_end, database_hint, lacking_hint, live_hint, near_hint,
+};
 use crate::frontend::fault_lines::Told;
 use log::{error, info};
 use rc_args::{CompileRequest, DbRequest, Query};
@@ -44,18 +46,22 @@ pub fn behind_compile(rt: &HostRuntime, request: &CompileRequest<'_>, told: &Tol
     }
 }
 
-/// Where the database of a command stands, in the file of `-b` or at the beginning of standard
-/// input, and what was read of that, if there was memory for all of it.
+/// Where the database of a command stands, in a file or at the beginning of standard input, and
+/// what was read of that, if there was memory for all of it.
 #[derive(Clone, Copy)]
 pub struct Seen<'a> {
-    file: Option<&'a str>,
+    place: Place<'a>,
     base: Option<&'a [u8]>,
     pub input: Option<&'a [u8]>,
 }
 
 impl<'a> Seen<'a> {
     pub fn new(file: Option<&'a str>, base: Option<&'a [u8]>, input: Option<&'a [u8]>) -> Seen<'a> {
-        Seen { file, base, input }
+        Seen::at(Place::of(file), base, input)
+    }
+
+    pub fn at(place: Place<'a>, base: Option<&'a [u8]>, input: Option<&'a [u8]>) -> Seen<'a> {
+        Seen { place, base, input }
     }
 
     /// Returns true if a database stands there. Fails if memory runs out.
@@ -88,7 +94,7 @@ fn behind_database(rt: &HostRuntime, seen: &Seen<'_>, told: &ToldErrors) {
     let Ok(Some((word, rest))) = told.fault() else {
         return;
     };
-    match plain_hint(word, rest, seen.file.is_some()) {
+    match plain_hint(word, rest, seen.place.path().is_some()) {
         Some(line) => tell_hint(rt, line),
         None => {
             tell_found(rt, HINT, hint_on(rt, seen, word, rest));
@@ -105,9 +111,9 @@ fn hint_on(rt: &HostRuntime, seen: &Seen<'_>, word: &str, rest: &str) -> Hint {
     };
     if word != "NotClosed" {
         if word == "Unknown" {
-            return near_hint(rt.alloc(), seen.file, database, rest);
+            return near_hint(rt.alloc(), seen.place, database, rest);
         }
-        let path = seen.file.unwrap_or("standard input");
+        let path = seen.place.path().unwrap_or("standard input");
         return database_hint(rt.alloc(), path, database, word, rest);
     }
     match others {
@@ -188,7 +194,11 @@ fn behind_live(
 /// Prints the name of a database that may have been meant by an unknown name. The database stands
 /// in a file or on standard input.
 pub fn tell_near(rt: &HostRuntime, file: Option<&str>, database: &[u8], name: &str) {
-    tell_found(rt, HINT, near_hint(rt.alloc(), file, database, name));
+    tell_found(
+        rt,
+        HINT,
+        near_hint(rt.alloc(), Place::of(file), database, name),
+    );
 }
 
 /// Returns the hint for a fault that needs no second look.
@@ -233,6 +243,23 @@ pub fn tell_no_history(rt: &HostRuntime, path: &str, fault: HistoryFault) -> u8 
     }
     info!(Messages(rt); target: HINT,
         "{path} is no history: restore it, or remove it to begin anew");
+    REFUSED
+}
+
+/// Reports that the file of a session, which holds `count` databases, holds no generation of this
+/// number, and returns the status.
+pub fn tell_no_generation(rt: &HostRuntime, path: &str, generation: u32, count: usize) -> u8 {
+    error!(Messages(rt); target: MESSAGE, "NoGeneration {generation}");
+    match count {
+        0 => info!(Messages(rt); target: HINT,
+            "{path} holds no history; without -k, undorc asks the database of -b"),
+        1 => info!(Messages(rt); target: HINT, "{path} holds one database, of generation 0"),
+        _ => {
+            let last = count.saturating_sub(1);
+            info!(Messages(rt); target: HINT,
+                "{path} holds {count} databases, of generations 0 to {last}");
+        }
+    }
     REFUSED
 }
 

@@ -2,13 +2,11 @@ use Rattle.std.proofs.Common.{◌≡◌, ◌∙◌, ◌∷◌, Option, IfNone, I
 use Rattle.clap.specs.Words.{found_of, rows_of}
 use Rattle.clap.proofs.WalkLemmas.{first_value-rows}
 use Rattle.std.proofs.lemmas.Result.{IfErr-weaker, IfOk-weaker}
-use Rattle.rc_args.specs.DbAsked.{AsksIn, db_ask_of}
+use Rattle.rc_args.specs.DbAsked.{db_ask_of}
 use Rattle.rc_args.specs.Query.{Question, question_of, words_of_query}
 use Rattle.rc_args.specs.Words.{words_in}
-use Rattle.rc_args.specs.declared.db_words.DbRequest.{DbRequest}
 use Rattle.rc_args.specs.declared.db_words.Query.{Query}
-use Rattle.rc_args.proofs.DbAskedLemmas.{no_query, query_by, shown_by_picture, spelled_so}
-use Rattle.rc_args.proofs.DbAskedLemmas.{with_options}
+use Rattle.rc_args.proofs.DbAskedLemmas.{no_generation, no_query, query_by, with_options}
 use Rattle.rc_args.proofs.db_words.db_in.Goals as goal
 
 pub returns-in_default-clause-wrong : goal.returns-in_default-clause-wrong
@@ -20,32 +18,20 @@ pub returns-in-Some-2-clause-asked : goal.returns-in-Some-2-clause-asked
 returns-in-Some-2-clause-asked c =
     let rows = rows_of (found_of c.args.matches.now) in
     let question = question_of c.in-Some-2.query in
-    let given = c.request_in.result in
     let spelled = query_by rows c.in-Some.word.now
     (c.in-Some.ensures ∙ first_value-rows (found_of c.args.matches.now) (codes "query"))
     ∙ subst (λ (found : Option Query). IfSome found
     (λ query. c.in-Some.word.now ∷ words_in rows ≡ words_of_query (question_of query)))
     c.in-Some-2.is c.in_ok-query.ensures.some in
-    IfOk-weaker c.shown.result _ _
-    (λ request both. subst (λ (r : DbRequest). AsksIn rows (db_ask_of r)) (sym both.0) (
-      spelled_so rows question (db_ask_of given) c.request_in.ensures spelled,
-      with_options rows question (db_ask_of given) c.request_in.ensures,
-      both.1,
-    )) c.shown.ensures.asked
+    IfOk-weaker c.request_in.result _ _
+    (λ request both. with_options rows question request.generation (db_ask_of request) both.0
+    spelled both.1) c.request_in.ensures.asked
 
 pub returns-in-Some-2-clause-wrong : goal.returns-in-Some-2-clause-wrong
 returns-in-Some-2-clause-wrong c =
-    let rows = rows_of (found_of c.args.matches.now) in
-    let question = question_of c.in-Some-2.query in
-    let given = c.request_in.result in
-    let spelled = query_by rows c.in-Some.word.now
-    (c.in-Some.ensures ∙ first_value-rows (found_of c.args.matches.now) (codes "query"))
-    ∙ subst (λ (found : Option Query). IfSome found
-    (λ query. c.in-Some.word.now ∷ words_in rows ≡ words_of_query (question_of query)))
-    c.in-Some-2.is c.in_ok-query.ensures.some in
-    IfErr-weaker c.shown.result _ _ (λ fault never other. shown_by_picture rows (db_ask_of given)
-    (spelled_so rows question (db_ask_of given) c.request_in.ensures spelled)
-    (with_options rows question (db_ask_of given) c.request_in.ensures) never) c.shown.ensures.wrong
+    IfErr-weaker c.request_in.result _ _
+    (λ fault never other. no_generation (rows_of (found_of c.args.matches.now)) never)
+    c.request_in.ensures.wrong
 
 pub returns-in-None-clause-wrong : goal.returns-in-None-clause-wrong
 returns-in-None-clause-wrong c = λ _ ask asks.
