@@ -340,9 +340,9 @@ pub record RunEnds (workers : ℕ) (Says : ℕ → Way → Outcome → Type 0) (
   pub whole : IsSpoiledBy result old new
 
 -- it was said by another name, and told of the names that the session has then
-pub run_ends : (workers : ℕ) (Says : ℕ → Way → Outcome → Type 0) (Gives : ℕ → Type 0)
-    (old new : Holding) (said command : Command) (names words : List (List ℕ))
-    (outcome : Result Report Fault) (result : Result Answer ServeFault) → said ≡ command
+pub run_ends : {workers : ℕ} {Says : ℕ → Way → Outcome → Type 0} {Gives : ℕ → Type 0}
+    {old : Holding} (new : Holding) {said command : Command} {names words : List (List ℕ)}
+    {outcome : Result Report Fault} {result : Result Answer ServeFault} → said ≡ command
     → old.begun ≡ false → names ≡ new.database.names → words ≡ words_of command
     → IfOk outcome (λ report. IsCarriedOut workers Says Gives old command (told_of report) new)
     → IfErr outcome (IsFault workers old command)
@@ -351,8 +351,8 @@ pub run_ends : (workers : ℕ) (Says : ℕ → Way → Outcome → Type 0) (Give
     → (outcome ≡ Err faults.Strange → result ≡ Err serve.Strange)
     → IfErr result (IsInner (IsStrange outcome) (outcome ≡ Err faults.NoThread))
     → RunEnds workers Says Gives old new said result
-run_ends workers Says Gives old new said command names words outcome result is closed named worded
-    done fault left told strange inner =
+run_ends {workers} {Says} {Gives} {old} new {said} {command} {names} {words} {outcome} {result} is
+    closed named worded done fault left told strange inner =
     let stays : Stays old new =
     stays_by workers Says Gives old new command outcome done left closed in
     subst (λ (k : Command). RunEnds workers Says Gives old new k result) (sym is) (record {

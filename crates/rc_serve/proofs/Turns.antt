@@ -8,7 +8,7 @@ use Rattle.rc_graph.specs.declared.Way.{Way}
 use Rattle.rc_model.specs.declared.Outcome.{Outcome}
 use Rattle.rc_session.specs.Holding.{Holding}
 use Rattle.rc_streams.specs.Exchange.{Exchange}
-use Rattle.rc_streams.specs.Taking.{Held, BeginsTooLong, HandsLine, LacksLine, Takes}
+use Rattle.rc_streams.specs.Taking.{Held, BeginsTooLong, HandsLine, LacksLine}
 use Rattle.rc_streams.specs.declared.input.Failure.{Failure}
 use Rattle.rc_streams.specs.declared.input.Failure.TheVariants as failures
 use Rattle.rc_script.specs.Says.{Saying}
@@ -19,14 +19,12 @@ use Rattle.rc_serve.specs.declared.fault.ServeFault.TheVariants.{NoThread, Stran
 use Rattle.rc_serve.specs.declared.keeper.KeepFault.{KeepFault}
 use Rattle.rc_serve.specs.Ending.{Ends, IsDoneAs, StopsOnce}
 use Rattle.rc_serve.specs.Faults.{IsServeFault, Spoils, StandsAt, of_failure}
-use Rattle.rc_serve.specs.Keeping.{AltersNone, Keeping}
+use Rattle.rc_serve.specs.Keeping.{Keeping}
 use Rattle.rc_serve.specs.Meeting.{Doing, IsDoneBy, WantsWork}
-use Rattle.rc_serve.specs.Serving.{HandsSaying, IsServing, NextWantsWork, ServesAll, ServesFront}
-use Rattle.rc_serve.specs.Serving.{StandsUnread}
+use Rattle.rc_serve.specs.Serving.{HandsSaying, NextWantsWork, StandsUnread}
 use Rattle.rc_serve.proofs.Keeping.{kept_none}
 use Rattle.rc_serve.proofs.Lines.{ServesNext, StopsAt, left_less, next_line, over, serves_next}
-use Rattle.rc_serve.proofs.Lines.{stands_as, takes_line, unaltered_all, unaltered_front}
-use Rattle.rc_serve.proofs.Lines.{unaltered_so}
+use Rattle.rc_serve.proofs.Lines.{stands_as}
 use Rattle.rc_serve.proofs.Steps.{ends_by}
 
 -- no line was handed out, as none was read
@@ -129,12 +127,6 @@ said_served workers Answers Gives ending ends test io held after saying old new 
       ends_by workers Answers Gives ending old.database old.line saying text new.line met,
     ) told)
 
--- what was taken of the input, and what is left of it
-pub said_takes : (ends : Bool) (input left : Option (List ℕ)) (held after : Held) (saying : Saying)
-    → HandsSaying ends input left held after saying → Takes input left held.taken after.taken
-said_takes ends input left held after saying (bytes, handed, says) =
-    takes_line ends input left held after bytes handed
-
 -- of what is held and what is not read yet, a line with a newline takes some
 pub said_less : (ends : Bool) (input left : Option (List ℕ)) (held after : Held) (saying : Saying)
     → HandsSaying ends input left held after saying → ends ≡ true → after.taken ≤ 16777217
@@ -144,28 +136,18 @@ said_less ends input left held after saying (bytes, handed, says) is within =
     left_less input left held after bytes
     (subst (λ (b : Bool). HandsLine b input left held after bytes) is handed) within
 
--- a fault of the reader, or of a line, is one of both
-pub unread_fault : (reader writer keeper : Type 0) (fault : ServeFault)
-    → IsServeFault reader ⊥ ⊥ fault → IsServeFault reader writer keeper fault
-unread_fault reader writer keeper Read device = device
-unread_fault reader writer keeper Write device = absurd device
-unread_fault reader writer keeper TooLong device = tt
-unread_fault reader writer keeper Memory device = tt
-unread_fault reader writer keeper NoThread device = tt
-unread_fault reader writer keeper Strange device = tt
-unread_fault reader writer keeper Workers device = absurd device
-unread_fault reader writer keeper Io device = absurd device
-
-pub line_fault : (reader writer keeper : Type 0) (fault : ServeFault)
-    → IsServeFault ⊥ writer keeper fault → IsServeFault reader writer keeper fault
-line_fault reader writer keeper Read device = absurd device
-line_fault reader writer keeper Write device = device
-line_fault reader writer keeper TooLong device = tt
-line_fault reader writer keeper Memory device = tt
-line_fault reader writer keeper NoThread device = tt
-line_fault reader writer keeper Strange device = tt
-line_fault reader writer keeper Workers device = absurd device
-line_fault reader writer keeper Io device = device
+-- a fault that some devices give is one that others give, where these have failed as well
+pub device_as : {reader writer keeper first second third : Type 0} (fault : ServeFault)
+    → (reader → first) → (writer → second) → (keeper → third)
+    → IsServeFault reader writer keeper fault → IsServeFault first second third fault
+device_as Read read write keep device = read device
+device_as Write read write keep device = write device
+device_as TooLong read write keep device = tt
+device_as Memory read write keep device = tt
+device_as NoThread read write keep device = tt
+device_as Strange read write keep device = tt
+device_as Workers read write keep device = absurd device
+device_as Io read write keep device = keep device
 
 -- a failure of a reader is one of its faults
 pub of_failed : (failed : Type 0) (failure : Failure) (input left : Option (List ℕ))
@@ -176,35 +158,13 @@ of_failed failed failures.Write input left held after lacks = absurd lacks.fault
 of_failed failed failures.TooLong input left held after lacks = tt
 of_failed failed failures.Memory input left held after lacks = tt
 
--- none of the faults that end a session at a line or before it is of the number of workers, and
--- one of a device comes only where that one has failed
-pub never_workers : {A : Type 0} (reader writer keeper : Type 0) (fault : ServeFault)
-    → IsServeFault reader writer keeper fault
-    → ◌≡◌ {A = Result A ServeFault} (Err fault) (Err Workers)
-    → ⊥
-never_workers {A} reader writer keeper fault device is =
-    subst (λ (r : Result A ServeFault). IfErr r (IsServeFault reader writer keeper)) is device
+-- what holds of the fault that a result has holds of each fault that it is
+pub fault_is : {A : Type 0} (P : ServeFault → Type 0) (result : Result A ServeFault)
+    (fault : ServeFault) → IfErr result P → result ≡ Err fault → P fault
+fault_is {A} P result fault holds is =
+    subst (λ (r : Result A ServeFault). IfErr r P) is holds
 
-pub of_reader : {A : Type 0} (reader writer keeper : Type 0) (fault : ServeFault)
-    → IsServeFault reader writer keeper fault → ◌≡◌ {A = Result A ServeFault} (Err fault) (Err Read)
-    → reader
-of_reader {A} reader writer keeper fault device is =
-    subst (λ (r : Result A ServeFault). IfErr r (IsServeFault reader writer keeper)) is device
-
-pub of_writer : {A : Type 0} (reader writer keeper : Type 0) (fault : ServeFault)
-    → IsServeFault reader writer keeper fault
-    → ◌≡◌ {A = Result A ServeFault} (Err fault) (Err Write)
-    → writer
-of_writer {A} reader writer keeper fault device is =
-    subst (λ (r : Result A ServeFault). IfErr r (IsServeFault reader writer keeper)) is device
-
-pub of_keeper : {A : Type 0} (reader writer keeper : Type 0) (fault : ServeFault)
-    → IsServeFault reader writer keeper fault → ◌≡◌ {A = Result A ServeFault} (Err fault) (Err Io)
-    → keeper
-of_keeper {A} reader writer keeper fault device is =
-    subst (λ (r : Result A ServeFault). IfErr r (IsServeFault reader writer keeper)) is device
-
--- a wrong number of workers is none of these
+-- a wrong number of workers is no other fault
 pub workers_alone : {A : Type 0} (fault : ServeFault)
     → IsServeFault (Unit {0}) (Unit {0}) (Unit {0}) fault
     → ◌≡◌ {A = Result A ServeFault} (Err Workers) (Err fault) → ⊥
@@ -224,26 +184,6 @@ told_on {A} {B} result fault is told = subst
 pub no_fault : {A : Type 0} (a : A) (fault : ServeFault)
     → ◌≡◌ {A = Result A ServeFault} (Ok a) (Err fault) → ⊥
 no_fault {A} a fault is = let bad : ◌≡◌ {A = Result A ServeFault} (Ok a) (Err fault) = is in cc
-
--- where no lines alter the line of states, the next one did not
-module _ (Done : Doing) (input here left : Option (List ℕ)) (held after : Held)
-    (written mid gained : Option (List ℕ)) (old now new : Holding)
-    (so : IsServing Done (over input here written mid) held old now)
-    (none : AltersNone Done input old.database old.line) where
-  pub still_served : ServesAll Done (over input left written gained) old new → new.line ≡ now.line
-  still_served all = unaltered_all Done input old none left written gained new all
-      ∙ sym (unaltered_so Done input old none here held written mid now so)
-
-  pub still_stopped : (fault : ServeFault)
-      → ServesFront Done fault (over input left written gained) old new → new.line ≡ now.line
-  still_stopped fault front =
-      unaltered_front Done input old none fault left written gained new front
-      ∙ sym (unaltered_so Done input old none here held written mid now so)
-
-  pub still_serving : IsServing Done (over input left written gained) after old new
-      → new.line ≡ now.line
-  still_serving next = unaltered_so Done input old none left after written gained new next
-      ∙ sym (unaltered_so Done input old none here held written mid now so)
 
 -- a test that failed does not hold
 pub not_so : (test : Bool) → test ≡ false → IsTrue test → ⊥

@@ -1,31 +1,30 @@
 -- The lines so far were met and answered.
-use Rattle.std.proofs.Common.{◌≡◌, ◌+◌, ◌-◌, length}
-use Rattle.rc_streams.specs.Exchange.{exchanged}
-use Rattle.rc_streams.specs.Noting.{HasFailed, IsFlushed, inner_of}
-use Rattle.rc_serve.specs.Serving.{IsServing}
-use Rattle.rc_serve.specs.Keeping.{AltersNone, IsKeptUp}
-use Rattle.rc_serve.specs.Meeting.{IsDoneBy}
+use Rattle.std.proofs.Common.{◌+◌, ◌-◌, length}
+use Rattle.rc_serve.proofs.Serving.{GoesOn}
 use Rattle.rc_serve.proofs.kept_sessions.serve_kept.Given as goal
 
 abbrev pub invariant-loop-next : goal.invariant-loop-next
-invariant-loop-next g l = record {
-  reads : HasFailed l.reader → ⊥;
-  writes : HasFailed l.writer → ⊥;
-  flushed : IsFlushed l.initial.writer → IsFlushed l.writer;
-  serving : IsServing
-      (IsDoneBy l.executor.workers (g.G.Gate.answers l.executor.gate.now)
-      (g.G.Gate.gives l.executor.gate.now))
-      (exchanged g.R.Read.remaining g.W.Write.contents l.initial.reader l.reader
-      l.initial.writer l.writer)
-      l.lines l.initial.session l.session;
-  unaltered : AltersNone
-      (IsDoneBy l.executor.workers (g.G.Gate.answers l.executor.gate.now)
-      (g.G.Gate.gives l.executor.gate.now))
-      (g.R.Read.remaining (inner_of l.initial.reader)) l.initial.session.database
-      l.initial.session.line → l.keeper ≡ l.initial.keeper;
-  kept : IsKeptUp (g.K.Keeper.keeps l.initial.keeper) (g.K.Keeper.keeps l.keeper)
-      l.initial.session.database l.initial.session.line l.session.line;
-}
+invariant-loop-next g l =
+    GoesOn (record {
+      workers = l.executor.workers;
+      answers = g.G.Gate.answers l.executor.gate.now;
+      gives = g.G.Gate.gives l.executor.gate.now;
+      remaining = g.R.Read.remaining;
+      contents = g.W.Write.contents;
+      keeps = g.K.Keeper.keeps;
+      failed = g.K.Keeper.failed;
+      fails = g.K.Keeper.fails;
+    }) (record {
+      reader = l.initial.reader;
+      writer = l.initial.writer;
+      keeper = l.initial.keeper;
+      session = l.initial.session;
+    }) (record {
+      reader = l.reader;
+      writer = l.writer;
+      keeper = l.keeper;
+      session = l.session;
+    }) l.lines
 
 -- what is held and what may still be read
 abbrev pub decreases-loop-next : goal.decreases-loop-next
