@@ -110,6 +110,14 @@ else
     echo 'FAILED: lemmas stand twice, or functions have too many arguments'
 fi
 
+# The answers for the longest contracts say first what is proved, and why it is hard.
+if python3 "$top/tests/gate/heads.py"; then
+    passed=$((passed + 1))
+else
+    failed=$((failed + 1))
+    echo 'FAILED: answers for a long contract do not say what is proved'
+fi
+
 # The list of definitions, which is not kept, can be made: it has each module of rc_model with a definition.
 python3 "$top/tests/gate/words.py" > words.md
 sed -n 's/^## `rc_model`: `\(.*\)`/\1/p' words.md > found

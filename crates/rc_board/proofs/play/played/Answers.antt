@@ -1,3 +1,7 @@
+-- The run of a plan by up to 64 workers, or with nothing to do by none. If nothing is planned, the
+-- course is settled without an event, and each clause is shown of that. Else the clauses are those
+-- of `worked` by the crew that is started; `made` widens that crew to the workers that were asked
+-- for.
 use Rattle.std.proofs.Common.{◌≡◌, ◌∙◌, ◌<◌, ◌≤◌, ℕ, [], ap, sym, subst, rules}
 use Rattle.std.proofs.Math.Nat.{min-le_left}
 use Rattle.rc_model.specs.Run.{IsPlanned, course_of, IsSettled}

@@ -1,3 +1,6 @@
+-- The run that workers have made is one that some interleaving of their notes makes. What each
+-- worker wrote stands in its pad, under a lock that is opened when all have ended; the contract of
+-- the threads gives what each of them said. `joined_made` makes one run of the interleaved notes.
 use Rattle.std.proofs.Common.{◌≡◌, ℕ, List, length, sym, subst, rules}
 use Rattle.std.specs.List.{All}
 use Rattle.rc_core.specs.Settled.{RunSoFar}

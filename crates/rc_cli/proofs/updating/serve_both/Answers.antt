@@ -1,3 +1,7 @@
+-- Both steps of an update, each in a session of its own database. The second one begins where the
+-- first is all done and the store has entered the new database (`enter`), which alters no text.
+-- `both_served` joins what the two lines have written and kept, `both_lead` what the store was led
+-- through.
 use Rattle.std.proofs.Common.{ℕ, List, Option, inl, subst}
 use Rattle.rc_streams.specs.Noting.{inner_of}
 use Rattle.rc_script.specs.Says.{saying_of}

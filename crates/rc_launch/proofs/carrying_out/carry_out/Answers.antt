@@ -1,3 +1,8 @@
+-- A command is carried out on its files. Each way to lead it (an undo or a redo, back to a state,
+-- shown, an update, a restart, a repair, alone) answers all clauses in one record. The clause of
+-- its own command follows from the call on that way; each other one asks for another command, which
+-- `led_by` excludes. The command is known only through `opened.command()`, so facts about it are
+-- carried over by `subst`.
 use Rattle.std.proofs.Common.{◌≡◌, ◌≢◌, ◌∙◌, Bool, List, None, Some, map, subst, sym, ℕ}
 use Rattle.std.specs.Prelude.{string_bytes}
 use Rattle.rc_args.specs.Invocation.{command_session}

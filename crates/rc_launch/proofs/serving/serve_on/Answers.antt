@@ -1,3 +1,5 @@
+-- A command is served on texts that were read. The clauses are those of `launch`. They speak of the
+-- request that `opened.session()` returns, so they are carried over to that of the command.
 use Rattle.std.proofs.Common.{Some, subst}
 use Rattle.rc_args.specs.SessionAsked.{session_ask_of}
 use Rattle.rc_args.specs.declared.session_request.SessionRequest.{SessionRequest}

@@ -1,3 +1,7 @@
+-- The definitions of all trees, or the first fault in the order of the tests. The trees are lent
+-- one by one as mutable borrows: it must be shown that what a tree holds does not change, and that
+-- the ones ahead are as they were (`ahead`), before `told_at` finds the source of the present one.
+-- The lemmas of Reading lead the tests on by one source.
 use Rattle.std.proofs.Common.{◌≡◌, ◌∙◌, get_or, sym, ap, arith}
 use Rattle.std.proofs.Math.Seq.{map-set_same}
 use Rattle.rc_source.specs.Tests.{flaw_of, name_carried}

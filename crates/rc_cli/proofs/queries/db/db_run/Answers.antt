@@ -1,3 +1,7 @@
+-- `db` with its words, over readers and writers. If the words are wrong, nothing is read. If they
+-- ask a question, each clause of `run_query` is turned from the query to the words that ask it. The
+-- input of `db` ends behind the database text, so the clauses on what was read differ from those of
+-- `plan` (`alone_end` and its like).
 use Rattle.std.proofs.Common.{None, false, inl, inr, map, string_bytes}
 use Rattle.rc_args.specs.DbAsked.{db_ask_of}
 use Rattle.rc_dbtext.specs.Base.{bytes_of}

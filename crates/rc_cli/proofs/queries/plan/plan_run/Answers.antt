@@ -1,3 +1,6 @@
+-- `plan` with its words, over readers and writers. If the words are wrong, nothing is read. If they
+-- ask for a plan, each clause of `run_query` is turned from the query to the words that ask it: by
+-- `if_some_then`, since the input is known only as far as it could be read.
 use Rattle.std.proofs.Common.{inl, inr, map, string_bytes}
 use Rattle.rc_select.specs.Ask.{ask_of}
 use Rattle.rc_dbtext.specs.Base.{bytes_of}

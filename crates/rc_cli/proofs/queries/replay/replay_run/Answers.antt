@@ -1,3 +1,5 @@
+-- `replay` with its words, over readers and writers. If the words are wrong, nothing is read. Else
+-- each clause of `run_query` is turned from the query to the words that ask it.
 use Rattle.std.proofs.Common.{inl, inr}
 use Rattle.rc_cli.proofs.RunLemmas.{never_wrong, status_wider}
 use Rattle.rc_cli.proofs.queries.replay.replay_run.Goals as goal

@@ -1,3 +1,6 @@
+-- The status, the output and the report of a query. An outcome is made first and printed then, so
+-- each clause is one fact about an outcome and its printing. `by.ends` joins what both calls
+-- promise, and QueryLemmas reads the clauses off that.
 use Rattle.rc_cli.proofs.QueryLemmas as by
 use Rattle.rc_cli.proofs.queries.running.run_query.Goals as goal
 

@@ -1,3 +1,8 @@
+-- A session is launched: of lines of an input, of one line, or of a restart. There are three ways
+-- to fail before it serves (the input, the database, the session in the file), and four to serve.
+-- Each answer names the outcome that the definition asks for and joins what the calls on that way
+-- promise. The lemmas of LaunchLemmas do that by the way, those of LeadingLemmas for what the store
+-- holds.
 use Rattle.std.proofs.Common.{◌≡◌, ◌∙◌, ℕ, List, [], Option, Some, Bor, Err, ap, inl, inr, refl}
 use Rattle.std.proofs.Common.{subst, sym}
 use Rattle.rc_streams.specs.Noting.{inner_of}

@@ -1,3 +1,6 @@
+-- One line is done. The session is kept first, if a file is named, and then the line is answered.
+-- So the store goes through two states, and clauses about its texts are joined over both
+-- (`served_line`, `puts_command`). A store that fails at first ends the line before anything moves.
 use Rattle.std.proofs.Common.{◌≡◌, ◌∙◌, true, false, inl, inr, refl, sym}
 use Rattle.rc_streams.specs.Noting.{inner_of}
 use Rattle.rc_script.specs.Says.{saying_of}

@@ -1,3 +1,6 @@
+-- Both lines of a restart: what goes down, and the undo of that. If the first line is refused or a
+-- device fails, the second one is not begun. `led` joins what both lines have put into the store
+-- (`leads_back`); it speaks of status 0 alone, so both lines are done.
 use Rattle.std.proofs.Common.{◌≡◌, ◌∙◌, Ok, ap, false, inl, inr, sym, true}
 use Rattle.rc_script.specs.Says.{saying_of}
 use Rattle.rc_args.specs.OnceAsked.{Said}

@@ -1,3 +1,6 @@
+-- The lines of an input are served in a session. Without a file nothing is kept, and the clauses
+-- are those of `serve`. With one, the session is kept first, and each line before its answer; what
+-- the keeper of lines holds is turned into what the store of the file holds (`lines_come`).
 use Rattle.std.proofs.Common.{ap, inl, option_map}
 use Rattle.std.proofs.lemmas.Result.{IfErr-weaker, on_ok_weaker}
 use Rattle.rc_streams.specs.Exchange.{exchanged}

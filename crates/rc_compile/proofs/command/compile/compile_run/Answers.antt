@@ -1,3 +1,5 @@
+-- The status and the output of `compile`, and the report of a fault. The search finds all but one
+-- goal: that a device has failed if status 111 is reported, since the fault names which one.
 use Rattle.rc_compile.proofs.CompileLemmas.{device_told}
 use Rattle.rc_compile.proofs.command.compile.compile_run.Goals as goal
 

@@ -1,3 +1,6 @@
+-- A service waits for one less, and joins the queue if that was the last. Only `placed` needs an
+-- answer: each service in the queue has its place in the table. Either the queue grows by this
+-- service, which was not in it and fits, or nothing of it changes but one number of the table.
 use Rattle.std.proofs.Common.{◌-◌, refl, arith}
 use Rattle.std.proofs.lemmas.List.{length-set}
 use Rattle.rc_core.proofs.Placed.{placed_push, placed_same}

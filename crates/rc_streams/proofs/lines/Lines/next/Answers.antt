@@ -1,3 +1,7 @@
+-- The next line of a reader, and what each way out of the loop leaves: of the input, of the bytes
+-- that are held, and of the count of those that were read. The loop either takes a part of what is
+-- held or reads more of it. Its invariant says what the line has by now; the lemmas of Handing and
+-- Pieces say how one turn leads it on. It ends since no more than the bound and a byte is read.
 use Rattle.std.proofs.Common.{◌≡◌, ◌≢◌, ◌∙◌, ◌⊎◌, inl, inr, ℕ, ◌+◌, ◌-◌, ◌<◌, ◌≤◌, Bool, true}
 use Rattle.std.proofs.Common.{false, List, length, arith, ap, refl, sym, subst}
 use Rattle.std.proofs.lemmas.Bool.{eq-eqb, eqb-true, false≢true}
