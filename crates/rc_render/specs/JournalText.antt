@@ -49,10 +49,13 @@ AreEntryLines names place (a ∷ b ∷ rest) text =
     (first : List ℕ) × (others : List ℕ) × IsEntryLine names place a b first
     × AreEntryLines names (suc place) (b ∷ rest) others × (text ≡ first ++ others)
 
+-- the number of the current state, and how many states there are
+abbrev pub place_text : (at count : ℕ) → List ℕ
+place_text at count = line (codes "at " ++ decimal at ++ codes " of " ++ decimal count)
+
 -- where the cursor of a line stands, and how many states the line has
 abbrev pub place_line : Line → List ℕ
-place_line l =
-    line (codes "at " ++ decimal (cursor l) ++ codes " of " ++ decimal (length (states l)))
+place_line l = place_text (cursor l) (length (states l))
 
 -- the journal of a line: where it stands, and its entries
 abbrev pub IsJournalText : List (List ℕ) → Line → List ℕ → Type 0

@@ -1,14 +1,15 @@
 //! The journal: where a line stands, and its entries.
-ghost use Rattle.std.specs.Prelude.{◌≡◌, ◌<◌, ◌≤◌, ◌∷◌, ◌++◌, ◌↔◌, Bool, true, false, List};
-ghost use Rattle.std.specs.Prelude.{if◌then◌else◌, length, All, Contains, IfOk, OnOk};
+ghost use Rattle.std.specs.Prelude.{◌≡◌, ◌<◌, ◌≤◌, ◌+◌, ◌^◌, ◌∷◌, ◌++◌, ◌↔◌, ℕ, Bool, true};
+ghost use Rattle.std.specs.Prelude.{false, List, if◌then◌else◌, length, All, Contains, IfOk, OnOk};
 ghost use Rattle.std.specs.Fmt.{decimal};
 ghost use Rattle.std.specs.List.{flat_map, join_with_byte};
 ghost use Rattle.std.specs.Option.{option_copied};
 ghost use Rattle.rc_model.specs.Names.{Holds};
-ghost use Rattle.rc_model.specs.Line.{State};
+ghost use Rattle.rc_model.specs.Line.{State, states};
 ghost use Rattle.rc_model.specs.Session.{IsLineOf};
 ghost use Rattle.rc_render.specs.JournalText.{AreMoves, IsEntryBelow, IsEntryLine, IsJournalText};
-ghost use Rattle.rc_render.specs.JournalText.{alteration_text, place_line, sign, signs, value_text};
+ghost use Rattle.rc_render.specs.JournalText.{AreEntryLines, alteration_text, place_text, sign};
+ghost use Rattle.rc_render.specs.JournalText.{signs, value_text};
 ghost use Rattle.rc_render.specs.Names.{names_in};
 
 use rc_bundle::Edit;
@@ -27,21 +28,39 @@ pub fn journal_text(alloc: Global, db: &Db, line: &Line) -> Result<Vec<u8>, NoMe
     requires line { IsLineOf db.now line.now.line }
     ensures { IfOk result (λ text. IsJournalText db.now.names line.now.line text.items) }
 {
-    let mut text = place_line(alloc, line)?;
-    for place in 0..line.states() - 1 {
-        let entry = entry_line(alloc, db.names(), place, line.entry(place))?;
-        text.extend_from_slice(&entry)?;
-    }
+    let mut text = place_text(alloc, line.cursor(), line.states())?;
+    add_entries(&mut text, alloc, db, line, 0)?;
     Ok(text)
 }
 
-/// Returns the line that gives the place of the cursor and the number of states.
-fn place_line(alloc: Global, line: &Line) -> Result<Vec<u8>, NoMem>
-    ensures { IfOk result (λ text. text.items ≡ place_line line.now.line) }
+/// Appends the entries of a line to a text, one line each, numbered from `first` on. The numbers of
+/// all its states have 64 bits.
+pub fn add_entries(
+    text: &mut Vec<u8>,
+    alloc: Global,
+    db: &Db,
+    line: &Line,
+    first: usize,
+) -> Result<(), NoMem>
+    requires closed { line.now.is_open ≡ false }
+    requires line { IsLineOf db.now line.now.line }
+    requires room { first + length (states line.now.line) < 2 ^ 64 }
+    ensures { OnOk result ((entries : List ℕ)
+        × AreEntryLines db.now.names first (states line.now.line) entries
+        × (text.new.items ≡ text.old.items ++ entries)) }
 {
-    let cursor = line.cursor();
-    let states = line.states();
-    Ok(format!(in alloc; "at {cursor} of {states}\n")?.into_bytes())
+    for place in 0..line.states() - 1 {
+        let entry = entry_line(alloc, db.names(), first + place, line.entry(place))?;
+        text.extend_from_slice(&entry)?;
+    }
+    Ok(())
+}
+
+/// Returns the line that gives the number of the current state and how many states there are.
+pub fn place_text(alloc: Global, at: usize, count: usize) -> Result<Vec<u8>, NoMem>
+    ensures { IfOk result (λ text. text.items ≡ place_text at count) }
+{
+    Ok(format!(in alloc; "at {at} of {count}\n")?.into_bytes())
 }
 
 /// Returns the line of the entry at a place.

@@ -13,7 +13,7 @@ mod told;
 
 pub use crate::answer::answer_text;
 pub use crate::dot::dot_text;
-pub use crate::journal::journal_text;
+pub use crate::journal::{add_entries, journal_text, place_text};
 pub use crate::lines::{id_lines, name_lines};
 pub use crate::plan::plan_text;
 pub use crate::refusal::{add_refusal_text, refusal_text, step_refusal_text, unknown_word};

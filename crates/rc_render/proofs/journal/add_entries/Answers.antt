@@ -7,9 +7,9 @@ use Rattle.rc_model.specs.Database.{Database}
 use Rattle.rc_model.specs.Line.{State, Entry, IsEntry, states}
 use Rattle.rc_model.specs.Session.{IsStateOf}
 use Rattle.rc_model.proofs.Lists.{grown}
-use Rattle.rc_render.specs.JournalText.{AreEntryLines, IsEntryLine, IsEntryBelow, place_line}
+use Rattle.rc_render.specs.JournalText.{AreEntryLines, IsEntryLine, IsEntryBelow}
 use Rattle.rc_render.proofs.JournalLemmas.{one_more_entry}
-use Rattle.rc_render.proofs.journal.journal_text.Goals as goal
+use Rattle.rc_render.proofs.journal.add_entries.Goals as goal
 
 -- what stands at a place is such
 at_place : (P : State → Type 0) (xs : List State) (i : ℕ) (x : State) → All P xs
@@ -51,31 +51,32 @@ loop-place-preserved c =
     let all = states c.args.line.now.line in
     let names = c.args.db.now.names in
     let i = c.loop-place.place in
+    let f = c.args.first in
     let (a, b, at_a, at_b, is) = c.entry.ensures in
     let (entries, lines, whole) = c.loop-place.invariant in
     let text = c.in_ok-entry.entry.items in
-    let here : IsEntryLine c.names.result.now c.loop-place.place c.entry.ensures.0 c.entry.ensures.1
-    c.in_ok-entry.entry.items =
+    let here : IsEntryLine c.names.result.now (c.args.first + c.loop-place.place)
+    c.entry.ensures.0 c.entry.ensures.1 c.in_ok-entry.entry.items =
     c.in_ok-entry.ensures a b
     (below c.args.db.now all c.names.result.now i a b c.entry.result.now c.requires.line.each
     c.names.ensures.names at_a at_b is) in
     let within : c.loop-place.place < length (states c.args.line.now.line) =
     slice_get_within all i a at_a in
     let low : c.loop-place.place ≤ length (states c.args.line.now.line) = omega arith in
-    let place : c.loop-place.place
-    ≡ 0 + length (take c.loop-place.place (states c.args.line.now.line)) =
+    let place : c.args.first + c.loop-place.place
+    ≡ c.args.first + length (take c.loop-place.place (states c.args.line.now.line)) =
     omega (arith, length-take-le i all low) in
     let named =
-    subst (λ (ns : List (List ℕ)). IsEntryLine ns i a b text) c.names.ensures.names here in (
+    subst (λ (ns : List (List ℕ)). IsEntryLine ns (f + i) a b text) c.names.ensures.names here in (
       entries ++ text,
-      subst (λ (xs : List State). AreEntryLines names 0 xs (entries ++ text))
+      subst (λ (xs : List State). AreEntryLines names f xs (entries ++ text))
           (sym (two_more all i a b at_a at_b))
-          (one_more_entry names 0 (take i all) a b entries text
-          (subst (λ (xs : List State). AreEntryLines names 0 xs entries)
+          (one_more_entry names f (take i all) a b entries text
+          (subst (λ (xs : List State). AreEntryLines names f xs entries)
           (take_next all i a at_a) lines)
           (subst (λ (n : ℕ). IsEntryLine names n a b text) place named)),
-      grown c.extend_from_slice.new.self.items c.loop-place.text.items
-          (place_line c.args.line.now.line) entries (entries ++ text) c.deref.result.now
+      grown c.extend_from_slice.new.self.items c.loop-place.text.items c.args.text.now.items
+          entries (entries ++ text) c.deref.result.now
           c.in_ok-extend_from_slice.ensures.items whole
           (ap (λ (t : List ℕ). entries ++ t) (sym c.deref.ensures.value)),
     )
@@ -86,7 +87,7 @@ returns c =
     let long : length (states c.args.line.now.line) ≤ c.loop-place.place + 1 =
     omega (arith, c.states-place-end.ensures.count, c.loop-place-test.false) in (
       entries,
-      subst (λ (xs : List State). AreEntryLines c.args.db.now.names 0 xs entries)
+      subst (λ (xs : List State). AreEntryLines c.args.db.now.names c.args.first xs entries)
           (take_all (c.loop-place.place + 1) (states c.args.line.now.line) long) lines,
       whole,
     )
