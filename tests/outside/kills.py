@@ -243,15 +243,13 @@ def round_of(machine):
     base, is_passed = machine.standing()
     machine.cut_short(words, lines, machine.draw.uniform(0.005, 0.5))
     unended = machine.under_way()
-    # A recovery that is killed itself, now and then. An update that another command has entered is not finished by
-    # the same update any more.
-    is_next = machine.draw.random() >= 0.3
-    if not is_next:
+    # A recovery that is killed itself, now and then, or a command that is no update has entered the log.
+    if machine.draw.random() < 0.3:
         machine.cut_short(["change"], "", machine.draw.uniform(0.0, 0.01))
     # A program whose command is killed before its process stands in the log is not waited for.
     if not machine.are_named(unended):
         wait_for_orphans()
-    if words[0] in ("update", "restart") and is_next and not is_passed and machine.draw.random() < 0.4:
+    if words[0] in ("update", "restart") and not is_passed and machine.draw.random() < 0.4:
         wait_for_orphans()
         machine.agree(machine.done())
         if words[0] == "update":
@@ -266,8 +264,8 @@ def round_of(machine):
     told = settle(machine)
     judge(machine, words, unended)
     is_entered = "Recovered" in told
-    # A change on a passed state that was cut leaves one, and an undo goes on from that.
-    if is_entered and words[0] == "change" and not is_passed and machine.live() != before and machine.draw.random() < 0.3:
+    # A change on a passed state leaves a stop, as if it had not been killed.
+    if is_entered and words[0] == "change" and machine.live() != before and machine.draw.random() < 0.3:
         undo(machine, before)
     if words[0] == "restart" and not is_passed and machine.live() != before and machine.draw.random() < 0.5:
         undo(machine, before)

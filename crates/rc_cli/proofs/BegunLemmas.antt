@@ -1,27 +1,17 @@
 -- The first line of a log, and that there is no other.
 use Rattle.std.proofs.Common.{◌≡◌, ◌≢◌, ◌∙◌, ◌++◌, ◌∷◌, ◌==◌, ◌↔◌, ℕ, suc, All, Bool}
 use Rattle.std.proofs.Common.{false, List, [], IsTrue, Contains, Some, refl, sym, ap, subst, arith}
-use Rattle.std.proofs.Common.{append_assoc, inl, inr, ◌⊎◌}
+use Rattle.std.proofs.Common.{append_assoc, inl, inr, ◌⊎◌, true, Option, None, MatchOption, Bor}
+use Rattle.std.specs.Prelude.{is_some}
 use Rattle.std.specs.List.{AllByRecursion, slice_split}
 use Rattle.std.proofs.lemmas.Bool.{ne_eqb}
 use Rattle.std.proofs.lemmas.List.{append_cancel_left}
 use Rattle.std.proofs.lemmas.List.Elements.{All-from_recursion, Contains-append_right}
 use Rattle.std.proofs.lemmas.List.Splits.{slice_split_at}
-use Rattle.rc_model.specs.Names.{Has}
-use Rattle.rc_model.specs.Database.{Database, IsDatabase}
-use Rattle.rc_model.specs.Line.{Line}
-use Rattle.rc_model.specs.Session.{Command, IsLineOf, Redo, Undo}
-use Rattle.rc_model.proofs.ByteOrder.{same_names}
-use Rattle.rc_dbtext.specs.Base.{Spells}
-use Rattle.rc_livetext.specs.Spelling.{Spells as SpellsLine}
-use Rattle.rc_dbtext.specs.Spelling.{spelling as spelling_of}
-use Rattle.rc_db.specs.Database.{IsWritable}
+use Rattle.rc_model.specs.Session.{Command, Redo, Undo}
 use Rattle.rc_script.specs.Says.{Saying, SaysStep, Says}
-use Rattle.rc_update.specs.Carrying.{AreNamesOf, IsAlteredUp}
-use Rattle.rc_update.specs.Conversions.{Conversion}
-use Rattle.rc_script.specs.RunLines.{least_limited}
-use Rattle.rc_cli.specs.Begun.{AreLowered, BeginsOn, BeginsUpdate, BeginsWith, SaysLowering}
-use Rattle.rc_cli.specs.Begun.{SaysWay}
+use Rattle.rc_script.specs.RunLines.{least_limited, step_mark}
+use Rattle.rc_cli.specs.Begun.{BeginsWith, SaysMarked, SaysWay}
 
 -- no byte of a line is its newline
 no_newline : (line : List ℕ) → (Contains line 10 → ⊥)
@@ -66,6 +56,36 @@ none_said bytes command plain says =
     bare_of bytes plain (subst (λ (b : List ℕ). Contains b 10) (sym whole)
     (Contains-append_right line (10 ∷ says.1) 10 (0, omega arith, refl)))
 
+-- bytes without a newline have no line that is marked
+pub none_marked : (bytes : List ℕ) → All (λ byte. byte ≢ 10) bytes → SaysMarked bytes → ⊥
+none_marked bytes plain (line, rest, is, bare) =
+    bare_of bytes plain (subst (λ (b : List ℕ). Contains b 10) (sym is)
+    (Contains-append_right line (10 ∷ (step_mark ++ rest)) 10 (0, omega arith, refl)))
+
+-- behind the first line stands what stands behind the one that is marked
+abbrev tail_of : List ℕ → List ℕ
+tail_of [] = []
+tail_of (x ∷ xs) = xs
+
+-- bytes have a marked line where the mark stands behind their first line
+pub marked_behind : (bytes line rest : List ℕ) (answer : Bool)
+    → (bytes ≡ line ++ 10 ∷ rest) × All (λ byte. byte ≢ 10) line
+    → (IsTrue answer ↔ ((more : List ℕ) × (rest ≡ step_mark ++ more)))
+    → IsTrue answer ↔ SaysMarked bytes
+marked_behind bytes line rest answer cut says = (
+  λ yes.
+      let (more, is) = says.0 yes in
+      (line, more, cut.0 ∙ ap (λ (t : List ℕ). line ++ 10 ∷ t) is, bare_of line cut.1),
+  λ (other, more, is, bare).
+      let same : line ≡ other =
+      same_front line other rest (step_mark ++ more) (bare_of line cut.1) bare
+      (sym cut.0 ∙ is ∙ sym (append_assoc other (10 ∷ []) (step_mark ++ more))) in
+      let both : 10 ∷ rest ≡ 10 ∷ (step_mark ++ more) =
+      append_cancel_left line (10 ∷ rest) (10 ∷ (step_mark ++ more))
+      (sym cut.0 ∙ is ∙ ap (λ (t : List ℕ). t ++ 10 ∷ (step_mark ++ more)) (sym same)) in
+      says.1 (more, ap tail_of both),
+)
+
 -- what the first line says is the command that bytes begin with
 pub said_once : (bytes line rest : List ℕ) (command : Command) (saying : Saying)
     → ((l : List ℕ) (a b : Saying) → Says l a → Says l b → a ≡ b)
@@ -92,22 +112,10 @@ says_it bytes line rest command cut said = (
 )
 
 -- the command that is said is the one that was read
-read_once : (read other : Command) → SaysStep read ≡ SaysStep other → read ≡ other
+pub read_once : (read other : Command) → SaysStep read ≡ SaysStep other → read ≡ other
 read_once read other same = cc
 
--- a command is the one that was read, or else bytes do not begin with it
-pub step_said : (bytes line rest : List ℕ) (command read : Command)
-    (answer : Bool) → ((l : List ℕ) (a b : Saying) → Says l a → Says l b → a ≡ b)
-    → (bytes ≡ line ++ 10 ∷ rest) × All (λ byte. byte ≢ 10) line → Says line (SaysStep read)
-    → (IsTrue answer ↔ (read ≡ least_limited command)) → IsTrue answer ↔ BeginsWith command bytes
-step_said bytes line rest command read answer one cut said is = (
-  λ yes. says_it bytes line rest command cut
-      (subst (λ (c : Command). Says line (SaysStep c)) (is.0 yes) said),
-  λ says. is.1 (read_once read (least_limited command)
-      (said_once bytes line rest command (SaysStep read) one cut said says)),
-)
-
--- the same of an undo or a redo
+-- a command is an undo or a redo, or else bytes begin with none
 pub way_said : (bytes line rest : List ℕ) (read : Command)
     (answer : Bool) → ((l : List ℕ) (a b : Saying) → Says l a → Says l b → a ≡ b)
     → (bytes ≡ line ++ 10 ∷ rest) × All (λ byte. byte ≢ 10) line → Says line (SaysStep read)
@@ -148,68 +156,14 @@ behind_once P file log rest answer log_is says = (
   λ there. says.1 (subst P (append_cancel_left file there.0 rest (sym there.1 ∙ log_is)) there.2),
 )
 
--- the names of services are one list
-pub one_list : (d : Database) (In : ℕ → Type 0) (xs ys : List (List ℕ)) → AreNamesOf d In xs
-    → AreNamesOf d In ys → xs ≡ ys
-one_list d In xs ys first second =
-    same_names xs ys first.order second.order
-    (λ n. (
-      λ h. (second.same n).1 ((first.same n).0 h),
-      λ h. (first.same n).1 ((second.same n).0 h),
-    ))
-
--- what the first step lowers is one list
-lowered_once : (d e : Database) (list : List Conversion) (file : List ℕ)
-    (names others : List (List ℕ)) → IsDatabase d
-    → ((d : Database) (bytes : List ℕ) (a b : Line) → IsDatabase d → IsLineOf d a → IsLineOf d b
-    → SpellsLine d bytes a → SpellsLine d bytes b → a ≡ b)
-    → AreLowered d e list file names → AreLowered d e list file others → names ≡ others
-lowered_once d e list file names others is one first second =
-    let same : second.0 ≡ first.0 =
-    one d file second.0 first.0 is second.1 first.1 second.2 first.2 in
-    one_list d (IsAlteredUp d e list (Has first.0.current.live)) names others first.3
-    (subst (λ (l : Line). AreNamesOf d (IsAlteredUp d e list (Has l.current.live)) others) same
-    second.3)
-
--- a log begins with the first step where what stands behind the text does
-pub begins_same : (d e : Database) (list : List Conversion) (file log rest : List ℕ)
-    (names : List (List ℕ)) (answer : Bool) → IsDatabase d
-    → ((d : Database) (bytes : List ℕ) (a b : Line) → IsDatabase d → IsLineOf d a → IsLineOf d b
-    → SpellsLine d bytes a → SpellsLine d bytes b → a ≡ b)
-    → log ≡ file ++ rest → AreLowered d e list file names
-    → (IsTrue answer ↔ SaysLowering rest names)
-    → IsTrue answer ↔ BeginsOn d e list file log
-begins_same d e list file log rest names answer is one log_is lowered says = (
-  λ yes. (names, rest, log_is, lowered, says.0 yes),
-  λ on.
-      let behind : on.1 ≡ rest = append_cancel_left file on.1 rest (sym on.2 ∙ log_is) in
-      let same : on.0 ≡ names = lowered_once d e list file on.0 names is one on.3 lowered in
-      says.1 (subst (λ (n : List (List ℕ)). SaysLowering rest n) same
-      (subst (λ (b : List ℕ). SaysLowering b on.0) behind on.4)),
+-- bytes begin with others where what stands behind those was found
+pub is_behind : (found : Option (Bor (List ℕ))) (answer : Bool) (front bytes : List ℕ)
+    → answer ≡ is_some found
+    → MatchOption found ((rest : List ℕ) → bytes ≡ front ++ rest → ⊥)
+    (λ rest. bytes ≡ front ++ rest.now)
+    → IsTrue answer ↔ ((more : List ℕ) × (bytes ≡ front ++ more))
+is_behind None answer front bytes is none = (
+  λ yes. absurd (let bad : false ≡ true = sym is ∙ yes in cc),
+  λ there. absurd (none there.0 there.1),
 )
-
--- a text is of one database
-pub one_base : (text : List ℕ) (d e : Database)
-    → ((a b : Database) (x y : List ℕ) → IsDatabase a → IsWritable a → IsDatabase b
-    → IsWritable b → spelling_of a ++ x ≡ spelling_of b ++ y → a ≡ b)
-    → Spells (Some text) [] d [] → Spells (Some text) [] e [] → d ≡ e
-one_base text d e one first second =
-    one d e [] [] first.0 first.1 second.0 second.1
-    (ap (λ (t : List ℕ). t ++ []) (sym first.2 ∙ second.2))
-
--- a log is that of an update of two texts where it is one of their databases
-pub update_same : (old new : List ℕ) (list : List Conversion) (file log : List ℕ)
-    (d e : Database) (answer : Bool)
-    → ((a b : Database) (x y : List ℕ) → IsDatabase a → IsWritable a → IsDatabase b
-    → IsWritable b → spelling_of a ++ x ≡ spelling_of b ++ y → a ≡ b)
-    → Spells (Some old) [] d [] → Spells (Some new) [] e []
-    → (IsTrue answer ↔ BeginsOn d e list file log)
-    → IsTrue answer ↔ BeginsUpdate old new list file log
-update_same old new list file log d e answer one from to begins = (
-  λ yes. (d, e, from, to, begins.0 yes),
-  λ update.
-      let same : update.0 ≡ d = one_base old update.0 d one update.2 from in
-      let also : update.1 ≡ e = one_base new update.1 e one update.3 to in
-      begins.1 (subst (λ (x : Database). BeginsOn x e list file log) same
-      (subst (λ (y : Database). BeginsOn update.0 y list file log) also update.4)),
-)
+is_behind (Some rest) answer front bytes is at = (λ yes. (rest.now, at), λ there. is)

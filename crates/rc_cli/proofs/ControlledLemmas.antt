@@ -30,14 +30,24 @@ use Rattle.rc_cli.specs.declared.sessions.keeping.LiveFile.{LiveFile}
 use Rattle.rc_cli.specs.declared.sessions.keeping.LiveFile.TheVariants.{Missing, Text, Unread}
 use Rattle.rc_cli.specs.declared.sessions.service.Service.{Service}
 use Rattle.rc_cli.specs.declared.updating.Ahead.{Ahead}
-use Rattle.rc_update.specs.Carrying.{Carried, StaysUp}
+use Rattle.rc_update.specs.Carrying.{AreNamesOf, Carried, StaysUp}
 use Rattle.rc_update.specs.Conversions.{Conversion}
 use Rattle.rc_update.specs.Knowing.{AreKnown}
 use Rattle.rc_cli.specs.Controlled.{IsLongrunOf, IsUncontrolled, IsUncontrolledUpdate}
 use Rattle.rc_cli.specs.Controlled.{LacksController, MovesAhead, MovesByParts, MovesByService}
 use Rattle.rc_cli.specs.Controlled.{MovesBySaying, MovesByUpdate, MovesLongrunOn}
 use Rattle.rc_cli.specs.Updating.{IsAhead, IsUpdate, Parts, carried_line}
-use Rattle.rc_cli.proofs.BegunLemmas.{one_list}
+use Rattle.rc_model.proofs.ByteOrder.{same_names}
+
+-- the names of services are one list
+one_list : (d : Database) (In : ℕ → Type 0) (xs ys : List (List ℕ)) → AreNamesOf d In xs
+    → AreNamesOf d In ys → xs ≡ ys
+one_list d In xs ys first second =
+    same_names xs ys first.order second.order
+    (λ n. (
+      λ h. (second.same n).1 ((first.same n).0 h),
+      λ h. (first.same n).1 ((second.same n).0 h),
+    ))
 
 -- a session whose run was given up is as before
 pub given_up : (old new : Holding) → old.begun ≡ false

@@ -33,7 +33,7 @@ mod SparingLemmas
 -- What an update moves, where the old database and what is live are known by other names.
 mod MovingLemmas
 -- The first line of a log, and that there is no other.
-mod BegunLemmas
+pub mod BegunLemmas
 -- Where the undo of a restart leads.
 mod RestartLemmas
 -- What the first step of a restart leaves, and the plans of both.

@@ -33,12 +33,13 @@ shows_writes Transitions = true
 
 -- a gate that starts programs shows what they write where each transition is reported, and keeps it
 -- in this directory, if there is one; its runs are logged and called off by these files, if there
--- are any
+-- are any, and logged as steps where they are some
 abbrev pub IsOnFiles : {R L : Type 0} → Verbosity → Option OutputFolder → Option RunFiles
-    → SessionGate R L → Type 0
-IsOnFiles verbosity outputs files (Table table) = Unit {0}
-IsOnFiles verbosity outputs files (Shell shell) = (shell.shows ≡ shows_writes verbosity)
+    → (is_step : Bool) → SessionGate R L → Type 0
+IsOnFiles verbosity outputs files is_step (Table table) = Unit {0}
+IsOnFiles verbosity outputs files is_step (Shell shell) = (shell.shows ≡ shows_writes verbosity)
     × (shell.outputs ≡ outputs) × (shell.log ≡ option_map (λ f. f.log) files)
+    × (shell.steps ≡ option_map (λ f. is_step) files)
     × (shell.stop ≡ option_map (λ f. f.stop) files)
 
 -- why there is no such gate: the first name that is to fail and is no service's, or out of memory

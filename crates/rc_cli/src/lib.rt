@@ -22,7 +22,7 @@ mod straying;
 mod update;
 mod updating;
 
-pub use crate::begun::{begins_restart, begins_update, logs_way};
+pub use crate::begun::{logs_step, logs_way};
 pub use crate::checking::{Findings, check_as_asked, controller_of, find_as_asked};
 pub use crate::queries::{db_run, plan_run, replay_run};
 pub use crate::remembered::remember;

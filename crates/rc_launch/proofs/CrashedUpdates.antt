@@ -1,5 +1,6 @@
 -- A crash within the writes of an update.
-use Rattle.std.proofs.Common.{◌≡◌, ◌∙◌, ◌⊎◌, ◌+◌, inl, inr, ℕ, Bool, false, List, [], ◌∷◌, ◌++◌, Ok}
+use Rattle.std.proofs.Common.{◌≡◌, ◌∙◌, ◌⊎◌, ◌+◌, inl, inr, ℕ, Bool, true, false, List, [], ◌∷◌}
+use Rattle.std.proofs.Common.{◌++◌, Ok}
 use Rattle.std.proofs.Common.{refl, sym, ap, subst}
 use Rattle.rc_model.specs.declared.Event.{Event}
 use Rattle.rc_model.specs.Database.{Database, IsDatabase}
@@ -25,17 +26,18 @@ use Rattle.rc_historytext.specs.Updates.{CarriesOver, GivesUpdated, KeepsLeft, K
 use Rattle.rc_historytext.specs.Updates.{StandsOn, UpdatesTo}
 use Rattle.rc_recovery.specs.Files.{AfterCrash, Files, Replace, Write}
 use Rattle.rc_recovery.specs.Recoveries.{IsLineAfter}
-use Rattle.rc_launch.specs.HistoryRecoveries.{EndsWithHistory, IsKeptFor}
+use Rattle.rc_launch.specs.HistoryRecoveries.{EndsWithHistory}
+use Rattle.rc_launch.specs.Keeping.{is_way, keeping_by, keeping_of}
 use Rattle.rc_launch.specs.HistoryCrashes.{EndsInOneHistory, IsOfRun}
 use Rattle.rc_launch.specs.UpdateCrashes.{IsTakenBack, StandsOnPlace, UndoRestores, WritesChange}
 use Rattle.rc_launch.specs.UpdateCrashes.{WritesUpdate}
 use Rattle.rc_launch.proofs.PutTexts.{kept_stays}
-use Rattle.rc_launch.proofs.HistoryEnds.{found_runs}
+use Rattle.rc_launch.proofs.HistoryEnds.{run_keeping}
 use Rattle.rc_launch.proofs.Writing.{after_all, at_rest, files, one_write, run_written, split}
 use Rattle.rc_launch.proofs.HistoryCrashed.{CrashLaws, crashed}
 use Rattle.rc_launch.proofs.StillChange.{still, still_ask}
 use Rattle.rc_launch.proofs.UndoneOnce.{UndoLaws, change_undone}
-use Rattle.rc_launch.proofs.GivenPlaces.{entered_present, entered_step, given_place, place_is}
+use Rattle.rc_launch.proofs.GivenPlaces.{entered_present, given_place, place_is}
 use Rattle.rc_historytext.proofs.UpdatedBegins.{adds_once, places_once}
 
 -- what the laws below say of a change
@@ -57,13 +59,13 @@ pub record UpdateLaws : Type 0 where
       → (new : History) × GivesHistory next new marks × IsHistory new × Undoes marks h new
   pub taken : (h : History) → IsHistory h → OneUndoTakesBack h
 
-change_written : (d : Database) (line : Line) (ask : Ask) (kept bytes : List ℕ)
-    (ws : List Write) → WritesChange d line ask kept ws
+change_written : (marked : Bool) (d : Database) (line : Line) (ask : Ask) (kept bytes : List ℕ)
+    (ws : List Write) → WritesChange marked d line ask kept ws
     → after_all ws (files bytes []) ≡ files kept []
-change_written d line ask kept bytes ws (inl (l, events, command, logged, is)) =
+change_written marked d line ask kept bytes ws (inl (l, events, command, mark, logged, is)) =
     ap (λ (w : List Write). after_all w (files bytes [])) is
     ∙ run_written (spelling d line) l bytes kept
-change_written d line ask kept bytes ws (inr is) =
+change_written marked d line ask kept bytes ws (inr is) =
     ap (λ (w : List Write). after_all w (files bytes [])) is
 
 -- what was logged of a change is entered as a change
@@ -104,39 +106,37 @@ twice_kept d line new bytes kept there (first, one, two) =
 
 module _ (laws : ChangeLaws) where
   -- where a crash of a change leads
-  record EndsSo (d : Database) (line : Line) (bytes end : List ℕ) : Type 0 where
+  record EndsSo (marked : Bool) (d : Database) (line : Line) (bytes end : List ℕ) : Type 0 where
     new : Line
     ask : Ask
     events : List Event
     report : Reported
     does : Does d line (Change ask events) report new
     is_line : IsLineOf d line
-    log : List ℕ
-    found : IsKeptFor (spelling d line) (files bytes log) (spelling d new) end
+    found : IsKept (keeping_by marked false) bytes (spelling d new) end
 
-  change_ends : (d : Database) (line new : Line) (ask : Ask) (keeping : Keeping)
+  change_ends : (d : Database) (line new : Line) (ask : Ask) (keeping : Keeping) (marked : Bool)
       (bytes kept : List ℕ) (ws : List Write) → IsDatabase d → IsWritable d
       → IsPresent bytes (database_text d) (spelling d line) → (IsLineOf d line → IsLineOf d new)
       → IsOfRun keeping → IsKept keeping bytes (spelling d new) kept
-      → WritesChange d line ask kept ws → (g : Files) (end : List ℕ)
+      → WritesChange marked d line ask kept ws → (g : Files) (end : List ℕ)
       → AfterCrash ws (files bytes []) g → EndsWithHistory g end
-      → (end ≡ bytes) ⊎ (end ≡ kept) ⊎ EndsSo d line bytes end
-  change_ends d line new ask keeping bytes kept ws is writable there keeps run is_kept
+      → (end ≡ bytes) ⊎ (end ≡ kept) ⊎ EndsSo marked d line bytes end
+  change_ends d line new ask keeping marked bytes kept ws is writable there keeps run is_kept
       (inr unlogged) g end crash ends =
       elim (one_write laws.crash.ends bytes kept end g
       (subst (λ (w : List Write). AfterCrash w (files bytes []) g) unlogged crash) ends) [
         | inl same ↦ inl same
         | inr same ↦ inr (inl same)
       ]
-  change_ends d line new ask keeping bytes kept ws is writable there keeps run is_kept
-      (inl (l, events, command, logged, written)) g end crash ends =
+  change_ends d line new ask keeping marked bytes kept ws is writable there keeps run is_kept
+      (inl (l, events, command, mark, logged, written)) g end crash ends =
       elim (whole.ends end ends) [
         | inl (same, file, log) ↦ inl same
         | inr (inr (same, file)) ↦ inr (inl same)
-        | inr (inl (some, holds, file, (last, of, after, inl (stays, same)))) ↦
-            inl (same ∙ file)
+        | inr (inl (some, holds, file, (last, of, after, inl (stays, same)))) ↦ inl same
         | inr (inl (some, holds, file, (last, of, after, inr found))) ↦
-            enters some last file after found
+            enters some last after found
       ]
     where
       whole : EndsInOneHistory d line l kept (files bytes []) g
@@ -155,20 +155,19 @@ module _ (laws : ChangeLaws) where
         crash = subst (λ (w : List Write). AfterCrash w (files bytes []) g) written crash;
       })
 
-      enters : (some : List Event) (last : Line) → g.file ≡ bytes
-          → IsLineAfter d line l.command some last
-          → IsKeptFor (spelling d line) g (spelling d last) end
-          → (end ≡ bytes) ⊎ (end ≡ kept) ⊎ EndsSo d line bytes end
-      enters some last file after found =
-          let now : IsKeptFor (spelling d line) (files bytes g.log) (spelling d last) end =
-          subst (λ (x : List ℕ). IsKeptFor (spelling d line) (files x g.log) (spelling d last) end)
-          file found in
+      enters : (some : List Event) (last : Line) → IsLineAfter d line l.command some last
+          → IsKept (keeping_of l) bytes (spelling d last) end
+          → (end ≡ bytes) ⊎ (end ≡ kept) ⊎ EndsSo marked d line bytes end
+      enters some last after found =
+          let now : IsKept (keeping_by marked false) bytes (spelling d last) end =
+          subst (λ (k : Keeping). IsKept k bytes (spelling d last) end)
+          (λ i. keeping_by (mark i) (is_way (command i))) found in
           elim (does_entered d line last l.command ask events command some after) [
             | inl same ↦
-                inl (kept_stays now.1 bytes (spelling d last) end
-                (found_runs (spelling d line) (files bytes g.log) (spelling d last) end now)
+                inl (kept_stays (keeping_by marked false) bytes (spelling d last) end
+                (run_keeping marked false)
                 (subst (λ (x : Line). StandsThere bytes (spelling d x)) (sym same)
-                (database_text d, there)) now.3)
+                (database_text d, there)) now)
             | inr (next, all, report, does) ↦ inr (inr (record {
               new = last;
               ask = next;
@@ -176,23 +175,24 @@ module _ (laws : ChangeLaws) where
               report = report;
               does = does;
               is_line = logged.line_of;
-              log = g.log;
               found = now;
             }))
           ]
 
   -- at whatever point of a change a crash came
   pub change_taken : (d : Database) (line new : Line) (ask : Ask) (events : List Event)
-      (report : Reported) (keeping : Keeping) (bytes kept : List ℕ) (writes : List Write)
-      (g : Files) (end : List ℕ) → StandsOn bytes d line → GoesOn false bytes false
+      (report : Reported) (keeping : Keeping) (marked : Bool) (bytes kept : List ℕ)
+      (writes : List Write) (g : Files) (end : List ℕ) → StandsOn bytes d line
+      → GoesOn false bytes false
       → Does d line (Change ask events) report new → IsOfRun keeping
-      → IsKept keeping bytes (spelling d new) kept → WritesChange d line ask kept writes
+      → IsKept keeping bytes (spelling d new) kept → WritesChange marked d line ask kept writes
       → AfterCrash writes (files bytes []) g → EndsWithHistory g end
       → IsTakenBack bytes (place_in d line.current) end
-  change_taken d line new ask events report keeping bytes kept writes g end stands goes does run
-      is_kept writing crash ends =
-      elim (change_ends d line new ask keeping bytes kept writes stands.is_database stands.writable
-      stands.there (λ of. answer_keeps d line of (Change ask events) (Ok report) new does) run
+  change_taken d line new ask events report keeping marked bytes kept writes g end stands goes does
+      run is_kept writing crash ends =
+      elim (change_ends d line new ask keeping marked bytes kept writes stands.is_database
+      stands.writable stands.there
+      (λ of. answer_keeps d line of (Change ask events) (Ok report) new does) run
       is_kept writing g end crash ends) [
         | inl same ↦ inl same
         | inr (inl same) ↦
@@ -200,10 +200,9 @@ module _ (laws : ChangeLaws) where
             (change_undone laws.undo d line new ask events report bytes kept keeping
             stands.is_database stands.writable stands.is_line stands.there goes does run is_kept)
         | inr (inr e) ↦
-            change_undone laws.undo d line e.new e.ask e.events e.report bytes end e.found.1
-            stands.is_database stands.writable stands.is_line stands.there goes e.does
-            (found_runs (spelling d line) (files bytes e.log) (spelling d e.new) end e.found)
-            e.found.3
+            change_undone laws.undo d line e.new e.ask e.events e.report bytes end
+            (keeping_by marked false) stands.is_database stands.writable stands.is_line
+            stands.there goes e.does (run_keeping marked false) e.found
       ]
 
 module _ (laws : UpdateLaws) where
@@ -253,12 +252,9 @@ module _ (laws : UpdateLaws) where
           lowered u.lowers.new u.lowers.ask u.lowers.events u.lowers.report Step u.half
           u.lowers.does tt half_kept
 
-      lowering_taken : (end : List ℕ) → EndsSo laws.change u.base u.line bytes end
+      lowering_taken : (end : List ℕ) → EndsSo laws.change true u.base u.line bytes end
           → IsTakenBack bytes (place_now h) end
-      lowering_taken end e =
-          lowered e.new e.ask e.events e.report e.found.1 end e.does
-          (found_runs (spelling u.base u.line) (files bytes e.log) (spelling u.base e.new) end
-          e.found) e.found.3
+      lowering_taken end e = lowered e.new e.ask e.events e.report Step end e.does tt e.found
 
       -- a change that is kept in place of the second half
       raised : (new : Line) (ask : Ask) (events : List Event) (report : Reported)
@@ -291,16 +287,9 @@ module _ (laws : UpdateLaws) where
       done_taken : UndoRestores (place_now h) done
       done_taken = restores done (laws.carried list d bytes done h marks distinct is gives goes u)
 
-      raising_taken : (end : List ℕ) → EndsSo laws.change d u.start u.entered end
+      raising_taken : (end : List ℕ) → EndsSo laws.change true d u.start u.entered end
           → UndoRestores (place_now h) end
-      raising_taken end e =
-          let (finder, keeping, by, kept) = e.found in
-          let same : keeping ≡ Step =
-          entered_step laws.change.undo list d u.start u.half u.entered u.enters.is_database
-          u.enters.writable u.enters.enters e.is_line u.enters.before u.enters.after finder e.log
-          keeping by in
-          raised e.new e.ask e.events e.report end e.does
-          (inr (subst (λ (k : Keeping). IsKept k u.entered (spelling d e.new) end) same kept))
+      raising_taken end e = raised e.new e.ask e.events e.report end e.does (inr e.found)
 
     -- at whatever point of an update a crash came
     module _ (writes : List Write) (g : Files) (end : List ℕ)
@@ -322,7 +311,7 @@ module _ (laws : UpdateLaws) where
           let r = u.lowers in
           let keeps : IsLineOf u.base u.line → IsLineOf u.base r.new =
           λ of. answer_keeps u.base u.line of (Change r.ask r.events) (Ok r.report) r.new r.does in
-          elim (change_ends laws.change u.base u.line r.new r.ask Step bytes u.half w.first
+          elim (change_ends laws.change u.base u.line r.new r.ask Step true bytes u.half w.first
           r.stands.is_database r.stands.writable r.stands.there keeps tt (half_kept w.done u)
           w.lowering g end crash ends) [
             | inl same ↦ inl same
@@ -339,7 +328,7 @@ module _ (laws : UpdateLaws) where
           e.enters in
           let keeps : IsLineOf d u.start → IsLineOf d r.new =
           λ of. answer_keeps d u.start of (Change r.ask r.events) (Ok r.report) r.new r.does in
-          elim (change_ends laws.change d u.start r.new r.ask Step u.entered w.done w.second
+          elim (change_ends laws.change d u.start r.new r.ask Step true u.entered w.done w.second
           e.is_database e.writable present keeps tt
           (left_kept d u.start r.new u.entered w.done present r.keeps) w.raising g end crash
           ends) [
@@ -365,7 +354,8 @@ module _ (laws : UpdateLaws) where
           elim (split w.second (Replace next ∷ []) (files u.entered []) g later) [
             | inl second ↦ raising second
             | inr last ↦ settling (subst (λ (f : Files). AfterCrash (Replace next ∷ []) f g)
-                (change_written d u.start u.raises.ask w.done u.entered w.second w.raising) last)
+                (change_written true d u.start u.raises.ask w.done u.entered w.second w.raising)
+                last)
           ]
 
       pub update_taken : AfterCrash writes (files bytes []) g
@@ -375,5 +365,6 @@ module _ (laws : UpdateLaws) where
           (subst (λ (ws : List Write). AfterCrash ws (files bytes []) g) w.is crash)) [
             | inl first ↦ lowering first
             | inr later ↦ entering (subst (λ (f : Files). AfterCrash border f g)
-                (change_written u.base u.line u.lowers.ask u.half bytes w.first w.lowering) later)
+                (change_written true u.base u.line u.lowers.ask u.half bytes w.first w.lowering)
+                later)
           ]

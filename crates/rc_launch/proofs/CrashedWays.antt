@@ -1,7 +1,6 @@
 -- A crash within the writes of an undo or a redo.
 use Rattle.std.proofs.Common.{◌≡◌, ◌∙◌, ◌⊎◌, inl, inr, ℕ, zero, suc, Bool, true, false, List, []}
-use Rattle.std.proofs.Common.{◌∷◌, ◌++◌, Ok, refl, sym, ap, subst, append_assoc}
-use Rattle.std.specs.List.{concat}
+use Rattle.std.proofs.Common.{◌∷◌, ◌++◌, Ok, refl, sym, ap, subst}
 use Rattle.rc_model.specs.declared.Event.{Event}
 use Rattle.rc_model.specs.Database.{Database}
 use Rattle.rc_model.specs.Line.{IsNext, Line}
@@ -11,25 +10,24 @@ use Rattle.rc_dbtext.specs.Spelling.{spelling as database_text}
 use Rattle.rc_livetext.specs.Spelling.{spelling}
 use Rattle.rc_history.specs.History.{Place, place_in}
 use Rattle.rc_historytext.specs.declared.keeping.Keeping.{Keeping}
-use Rattle.rc_historytext.specs.declared.keeping.Keeping.TheVariants.{Step, Way}
+use Rattle.rc_historytext.specs.declared.keeping.Keeping.TheVariants.{Way}
 use Rattle.rc_historytext.specs.Halting.{MayDo}
 use Rattle.rc_historytext.specs.Keeping.{IsKept}
 use Rattle.rc_historytext.specs.Present.{IsPresent}
 use Rattle.rc_historytext.specs.Travelling.{CrossesOver, GoesOn, PassesTo, way_command}
 use Rattle.rc_historytext.specs.Updates.{StandsOn}
 use Rattle.rc_recovery.specs.Files.{AfterCrash, Files, Write}
-use Rattle.rc_recovery.specs.Logging.{HoldEvents, IsLogged, Logged}
+use Rattle.rc_recovery.specs.Logging.{Logged}
 use Rattle.rc_recovery.specs.Recoveries.{IsLineAfter}
-use Rattle.rc_script.specs.RunLines.{IsStepLine}
-use Rattle.rc_cli.specs.Begun.{LogsWay, SaysWay}
-use Rattle.rc_launch.specs.Keeping.{is_step, keeping_by}
-use Rattle.rc_launch.specs.HistoryRecoveries.{EndsWithHistory, IsKeptFor, beside}
+use Rattle.rc_launch.specs.Keeping.{is_way, keeping_by, keeping_of}
+use Rattle.rc_launch.specs.HistoryRecoveries.{EndsWithHistory}
 use Rattle.rc_launch.specs.HistoryCrashes.{EndsInOneHistory, IsOfRun}
 use Rattle.rc_launch.specs.UpdateCrashes.{IsTakenBack, StandsOnPlace, UndoRestores}
 use Rattle.rc_launch.specs.WayCrashes.{LeavesStep, LeavesWay, WritesInside, WritesPasses, WritesRun}
 use Rattle.rc_launch.specs.WayCrashes.{LineHasRoom, StopsBehind, WritesStep, WritesWay}
 use Rattle.rc_launch.proofs.Writing.{after_all, after_both, at_rest, files, one_write}
 use Rattle.rc_launch.proofs.Writing.{run_written, split}
+use Rattle.rc_launch.proofs.HistoryEnds.{run_keeping}
 use Rattle.rc_launch.proofs.HistoryCrashed.{CrashLaws, crashed}
 use Rattle.rc_launch.proofs.UndoneOnce.{UndoLaws, redo_undone, undo_undone}
 
@@ -46,31 +44,6 @@ does_way false d line end limit old (first ∷ more) (report, inl (obeys, settle
 does_way false d line end limit old (first ∷ more) (report, inr (unsettled, is, tried, obeys)) =
     inr (1, _, report, obeys.1)
 
--- its log says that it is one
-says_way : (on : Bool) (limit : ℕ) (old : List Event) (step rest : List ℕ)
-    → IsStepLine (way_command on limit old) step → SaysWay (step ++ rest)
-says_way true limit old step rest is = inr (step, rest, refl, is)
-says_way false limit old step rest is = inl (step, rest, refl, is)
-
-logs_way : (on : Bool) (limit : ℕ) (old : List Event) (d : Database) (line : Line) (l : Logged)
-    (events : List Event) (g : Files) → l.command ≡ way_command on limit old → IsLogged d line l
-    → HoldEvents d line l events (beside (spelling d line) g)
-    → LogsWay (spelling d line) g.log
-logs_way on limit old d line l events g command logged holds = (
-  l.step ++ (concat holds.lines ++ holds.part),
-  ap (λ (x : Files). x.log) holds.files
-      ∙ append_assoc (spelling d line) (l.step ++ concat holds.lines) holds.part
-      ∙ ap (λ (x : List ℕ). spelling d line ++ x)
-      (append_assoc l.step (concat holds.lines) holds.part),
-  says_way on limit old l.step (concat holds.lines ++ holds.part)
-      (subst (λ (c : Command). IsStepLine c l.step) command logged.step_is),
-)
-
--- so it is kept as an undo or a redo, or as a step
-kept_so : (step : Bool) → (keeping_by step true ≡ Step) ⊎ (keeping_by step true ≡ Way)
-kept_so true = inl refl
-kept_so false = inr refl
-
 -- a line that an undo or a redo leaves is one of the database
 way_of : (on : Bool) (d : Database) (line new : Line) → IsLineOf d line → MayDo d on line new
     → IsLineOf d new
@@ -78,64 +51,65 @@ way_of on d line new of (inl same) = subst (IsLineOf d) (sym same) of
 way_of on d line new of (inr (limit, events, report, does)) =
     answer_keeps d line of (way_command on limit events) (Ok report) new does
 
--- what a crash of a run leaves: a line that it may leave is kept as an undo or a redo, or as a step
-pub record RunLeaves (on : Bool) (d : Database) (line : Line) (bytes end : List ℕ)
-    : Type 0 where
+-- what a crash of a run leaves: a line that it may leave is kept as the run keeps its own, or as
+-- its log says
+pub record RunLeaves (on : Bool) (keeping : Keeping) (marked : Bool) (d : Database) (line : Line)
+    (bytes end : List ℕ) : Type 0 where
   pub new : Line
   pub left : MayDo d on line new
-  pub kept : IsKept Way bytes (spelling d new) end ⊎ IsKept Step bytes (spelling d new) end
+  pub kept : IsKept keeping bytes (spelling d new) end
+      ⊎ IsKept (keeping_by marked true) bytes (spelling d new) end
+
+-- the command is an undo or a redo
+way_is : (on : Bool) (limit : ℕ) (old : List Event) → is_way (way_command on limit old) ≡ true
+way_is true limit old = refl
+way_is false limit old = refl
 
 module _ (laws : CrashLaws) where
   -- a run inside the present generation
-  module _ (on : Bool) (d : Database) (line new : Line) (bytes next : List ℕ)
-      (writes : List Write) (stands : StandsOn bytes d line) (left : MayDo d on line new)
-      (kept_is : IsKept Way bytes (spelling d new) next) (g : Files) (end : List ℕ)
+  module _ (on : Bool) (keeping : Keeping) (marked : Bool) (d : Database) (line new : Line)
+      (bytes next : List ℕ) (writes : List Write) (stands : StandsOn bytes d line)
+      (left : MayDo d on line new) (run : IsOfRun keeping)
+      (kept_is : IsKept keeping bytes (spelling d new) next) (g : Files) (end : List ℕ)
       (crash : AfterCrash writes (files bytes []) g) (ends : EndsWithHistory g end) where
-    whole : end ≡ next → RunLeaves on d line bytes end
+    whole : end ≡ next → RunLeaves on keeping marked d line bytes end
     whole same = record {
       new = new;
       left = left;
-      kept = inl (subst (IsKept Way bytes (spelling d new)) (sym same) kept_is);
+      kept = inl (subst (IsKept keeping bytes (spelling d new)) (sym same) kept_is);
     }
 
     found : (limit : ℕ) (old : List Event) (l : Logged) (events : List Event) (last : Line)
-        → l.command ≡ way_command on limit old → IsLogged d line l
-        → HoldEvents d line l events (beside (spelling d line) g) → g.file ≡ bytes
+        → l.command ≡ way_command on limit old → l.marked ≡ marked
         → IsLineAfter d line l.command events last
-        → IsKeptFor (spelling d line) g (spelling d last) end → RunLeaves on d line bytes end
-    found limit old l events last command logged holds file after (finder, keeping, by, kept) =
-        let way : by.way ≡ true =
-        by.logs.1 (logs_way on limit old d line l events g command logged holds) in
-        let so : keeping ≡ keeping_by (is_step finder by.way by.passed by.last) true =
-        by.is ∙ ap (keeping_by (is_step finder by.way by.passed by.last)) way in
-        let Kept : Keeping → Type 0 = λ k. IsKept k bytes (spelling d last) end in
-        let now : Kept keeping =
-        subst (λ (x : List ℕ). IsKept keeping x (spelling d last) end) file kept in
+        → IsKept (keeping_of l) bytes (spelling d last) end
+        → RunLeaves on keeping marked d line bytes end
+    found limit old l events last command mark after kept =
+        let way : is_way l.command ≡ true = ap is_way command ∙ way_is on limit old in
         record {
           new = last;
           left = does_way on d line last limit old events
               (subst (λ (c : Command). IsLineAfter d line c events last) command after);
-          kept = elim (kept_so (is_step finder by.way by.passed by.last)) [
-            | inl step ↦ inr (subst Kept (so ∙ step) now)
-            | inr plain ↦ inl (subst Kept (so ∙ plain) now)
-          ];
+          kept =
+              inr (subst (λ (k : Keeping). IsKept k bytes (spelling d last) end)
+              (λ i. keeping_by (mark i) (way i)) kept);
         }
 
-    pub run_ends : WritesRun on d line next writes
-        → (end ≡ bytes) ⊎ RunLeaves on d line bytes end
+    pub run_ends : WritesRun marked on d line next writes
+        → (end ≡ bytes) ⊎ RunLeaves on keeping marked d line bytes end
     run_ends (inr unlogged) =
         elim (one_write laws.ends bytes next end g
         (subst (λ (ws : List Write). AfterCrash ws (files bytes []) g) unlogged crash) ends) [
           | inl same ↦ inl same
           | inr same ↦ inr (whole same)
         ]
-    run_ends (inl (l, limit, old, command, logged, written)) =
+    run_ends (inl (l, limit, old, command, mark, logged, written)) =
         let all : EndsInOneHistory d line l next (files bytes []) g =
-        crashed laws d line new Way l next (files bytes []) g (record {
+        crashed laws d line new keeping l next (files bytes []) g (record {
           stands = stands;
           logged = logged;
           new_of = way_of on d line new stands.is_line left;
-          of_run = tt;
+          of_run = run;
           kept_is = kept_is;
           rest = laws.ends.empty d (spelling d line);
           crash =
@@ -144,10 +118,9 @@ module _ (laws : CrashLaws) where
         elim (all.ends end ends) [
           | inl (same, file, log) ↦ inl same
           | inr (inr (same, file)) ↦ inr (whole same)
-          | inr (inl (events, holds, file, (last, of, after, inl (stays, same)))) ↦
-              inl (same ∙ file)
+          | inr (inl (events, holds, file, (last, of, after, inl (stays, same)))) ↦ inl same
           | inr (inl (events, holds, file, (last, of, after, inr kept))) ↦
-              inr (found limit old l events last command logged holds file after kept)
+              inr (found limit old l events last command mark after kept)
         ]
 
   inside_ends : (on : Bool) (bytes next : List ℕ) (writes : List Write)
@@ -157,39 +130,26 @@ module _ (laws : CrashLaws) where
       let e = w.ends in
       let there : IsPresent bytes (database_text e.base) (spelling e.base e.line) =
       subst (λ (s : List ℕ). IsPresent bytes (database_text e.base) s) w.spelled e.there in
-      elim (run_ends on e.base e.line e.new bytes next writes (record {
+      elim (run_ends on Way false e.base e.line e.new bytes next writes (record {
         there = there;
         is_database = e.is_database;
         writable = e.writable;
         is_line = e.is_line;
-      }) e.left e.kept g end crash ends w.is) [
+      }) e.left tt e.kept g end crash ends w.is) [
         | inl same ↦ inl (inl same)
-        | inr r ↦ elim r.kept [
-          | inl kept ↦ inl (inr (record {
-            base = e.base;
-            line = e.line;
-            new = r.new;
-            session = spelling e.base e.line;
-            there = there;
-            is_database = e.is_database;
-            writable = e.writable;
-            is_line = e.is_line;
-            begins = inl refl;
-            left = r.left;
-            kept = kept;
-          }))
-          | inr kept ↦ inr (inr (record {
-            base = e.base;
-            line = e.line;
-            new = r.new;
-            there = there;
-            is_database = e.is_database;
-            writable = e.writable;
-            is_line = e.is_line;
-            left = r.left;
-            kept = kept;
-          }))
-        ]
+        | inr r ↦ inl (inr (record {
+          base = e.base;
+          line = e.line;
+          new = r.new;
+          session = spelling e.base e.line;
+          there = there;
+          is_database = e.is_database;
+          writable = e.writable;
+          is_line = e.is_line;
+          begins = inl refl;
+          left = r.left;
+          kept = elim r.kept [ inl own ↦ own | inr way ↦ way ];
+        }))
       ]
 
   step_ends : (on : Bool) (bytes next : List ℕ) (writes : List Write)
@@ -201,7 +161,7 @@ module _ (laws : CrashLaws) where
       elim (one_write laws.ends bytes next end g
       (subst (λ (ws : List Write). AfterCrash ws (files bytes []) g) is crash) ends) [
         | inl same ↦ inl (inl same)
-        | inr same ↦ inr (inl (subst (CrossesOver on bytes) (sym same) over))
+        | inr same ↦ inr (subst (CrossesOver on bytes) (sym same) over)
       ]
 
 -- what a step writes leaves its history, and an empty log
@@ -210,7 +170,7 @@ step_written : (on : Bool) (bytes next : List ℕ) (writes : List Write)
 step_written on bytes next writes (inr (over, is)) =
     ap (λ (ws : List Write). after_all ws (files bytes [])) is
 step_written on bytes next writes (inl w) = elim w.is [
-  | inl (l, limit, events, command, logged, is) ↦
+  | inl (l, limit, events, command, mark, logged, is) ↦
       ap (λ (ws : List Write). after_all ws (files bytes [])) is
       ∙ run_written (spelling w.ends.base w.ends.line) l bytes next
   | inr is ↦ ap (λ (ws : List Write). after_all ws (files bytes [])) is
@@ -280,50 +240,53 @@ pub record WayLaws : Type 0 where
   pub crash : CrashLaws
   pub undo : UndoLaws
 
-module _ (laws : WayLaws) (d : Database) (line new : Line) (bytes kept : List ℕ)
-    (writes : List Write) (stands : StandsOn bytes d line) (room : LineHasRoom line)
-    (kept_is : IsKept Way bytes (spelling d new) kept) (g : Files) (end : List ℕ)
+module _ (laws : WayLaws) (d : Database) (line new : Line) (keeping : Keeping) (marked : Bool)
+    (bytes kept : List ℕ) (writes : List Write) (stands : StandsOn bytes d line)
+    (room : LineHasRoom line) (run : IsOfRun keeping)
+    (kept_is : IsKept keeping bytes (spelling d new) kept) (g : Files) (end : List ℕ)
     (crash : AfterCrash writes (files bytes []) g) (ends : EndsWithHistory g end) where
   pub redo_taken : GoesOn false bytes false → MayDo d true line new
-      → WritesRun true d line kept writes → IsTakenBack bytes (place_in d line.current) end
+      → WritesRun marked true d line kept writes → IsTakenBack bytes (place_in d line.current) end
   redo_taken goes left w =
-      elim (run_ends laws.crash true d line new bytes kept writes stands left kept_is g end crash
-      ends w) [
+      elim (run_ends laws.crash true keeping marked d line new bytes kept writes stands left run
+      kept_is g end crash ends w) [
         | inl same ↦ inl same
         | inr r ↦ elim r.kept [
-          | inl plain ↦ by r.new Way tt r.left plain
-          | inr step ↦ by r.new Step tt r.left step
+          | inl own ↦ by r.new keeping run r.left own
+          | inr said ↦
+              by r.new (keeping_by marked true) (run_keeping marked true) r.left said
         ]
       ]
     where
-      by : (last : Line) (keeping : Keeping) → IsOfRun keeping → MayDo d true line last
-          → IsKept keeping bytes (spelling d last) end
+      by : (last : Line) (own : Keeping) → IsOfRun own → MayDo d true line last
+          → IsKept own bytes (spelling d last) end
           → IsTakenBack bytes (place_in d line.current) end
-      by last keeping run does is =
-          redo_undone laws.undo d line last bytes end keeping stands.is_database stands.writable
-          stands.is_line stands.there goes room does run is
+      by last own runs does is =
+          redo_undone laws.undo d line last bytes end own stands.is_database stands.writable
+          stands.is_line stands.there goes room does runs is
 
   pub undo_taken : (back : Line) → IsNext back line → StopsBehind bytes → MayDo d false line new
-      → WritesRun false d line kept writes → StandsOnPlace end (place_in d back.current)
+      → WritesRun marked false d line kept writes → StandsOnPlace end (place_in d back.current)
       ⊎ UndoRestores (place_in d back.current) end
   undo_taken back next behind left w =
-      elim (run_ends laws.crash false d line new bytes kept writes stands left kept_is g end crash
-      ends w) [
+      elim (run_ends laws.crash false keeping marked d line new bytes kept writes stands left run
+      kept_is g end crash ends w) [
         | inl same ↦ by line Way tt (inl refl)
             (inl ((database_text d, stands.there), same))
         | inr r ↦ elim r.kept [
-          | inl plain ↦ by r.new Way tt r.left plain
-          | inr step ↦ by r.new Step tt r.left step
+          | inl own ↦ by r.new keeping run r.left own
+          | inr said ↦
+              by r.new (keeping_by marked true) (run_keeping marked true) r.left said
         ]
       ]
     where
-      by : (last : Line) (keeping : Keeping) → IsOfRun keeping → MayDo d false line last
-          → IsKept keeping bytes (spelling d last) end
+      by : (last : Line) (own : Keeping) → IsOfRun own → MayDo d false line last
+          → IsKept own bytes (spelling d last) end
           → StandsOnPlace end (place_in d back.current)
           ⊎ UndoRestores (place_in d back.current) end
-      by last keeping run does is =
-          undo_undone laws.undo d line back last bytes end keeping stands.is_database
-          stands.writable stands.is_line next stands.there behind room does run is
+      by last own runs does is =
+          undo_undone laws.undo d line back last bytes end own stands.is_database
+          stands.writable stands.is_line next stands.there behind room does runs is
 
 -- whole steps, and whole steps behind them
 chain : (on : Bool) (bytes between next : List ℕ) (n m : ℕ) → PassesTo n on bytes between

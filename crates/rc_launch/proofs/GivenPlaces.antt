@@ -1,9 +1,9 @@
 -- The present generation of a history that is given, and of one that an update has entered.
-use Rattle.std.proofs.Common.{◌≡◌, ◌∙◌, ◌+◌, ◌-◌, ◌<◌, ◌==◌, ◌&&◌, ◌||◌, inl, ℕ, zero, suc}
-use Rattle.std.proofs.Common.{Bool, true, false, not, List, [], ◌∷◌, ◌++◌, length, drop, All}
+use Rattle.std.proofs.Common.{◌≡◌, ◌∙◌, ◌+◌, ◌-◌, ◌<◌, ◌==◌, inl, ℕ, zero, suc}
+use Rattle.std.proofs.Common.{Bool, true, false, List, [], ◌∷◌, ◌++◌, length, drop, All}
 use Rattle.std.proofs.Common.{Some, slice_get, arith, refl, sym, ap, subst, length-append}
 use Rattle.std.proofs.Common.{if◌then◌else◌}
-use Rattle.std.proofs.lemmas.Bool.{and_from, eq-eqb, eqb-true, or_left, or_right}
+use Rattle.std.proofs.lemmas.Bool.{eqb-true}
 use Rattle.std.proofs.lemmas.List.{length-take}
 use Rattle.std.proofs.lemmas.List.Elements.{All-head, All-tail}
 use Rattle.rc_model.specs.Database.{Database, IsDatabase}
@@ -14,22 +14,17 @@ use Rattle.rc_update.specs.Conversions.{Conversion}
 use Rattle.rc_dbtext.specs.Spelling.{spelling as database_text}
 use Rattle.rc_livetext.specs.Spelling.{Spells, spelling}
 use Rattle.rc_history.specs.History.{Generation, History, IsGeneration, IsHistory, place_now}
-use Rattle.rc_historytext.specs.declared.keeping.Keeping.{Keeping}
-use Rattle.rc_historytext.specs.declared.keeping.Keeping.TheVariants.{Step}
 use Rattle.rc_historytext.specs.Text.{GenerationText, HistoryText}
 use Rattle.rc_historytext.specs.Moves.{as_oldest, begun, with_room, without_later, without_oldest}
 use Rattle.rc_historytext.specs.Places.{GivesHistory}
-use Rattle.rc_historytext.specs.Present.{IsAt, IsPresent, passes}
+use Rattle.rc_historytext.specs.Present.{IsAt, IsPresent}
 use Rattle.rc_historytext.specs.Telling.{TellEach, TellFromOldest, TellsStates}
 use Rattle.rc_historytext.specs.Updates.{StandsOn}
 use Rattle.rc_historytext.specs.Updating.{IsEntered, entered}
-use Rattle.rc_launch.specs.Keeping.{KeepsAs, is_step, keeping_by}
-use Rattle.rc_launch.specs.declared.held_files.Finder.{Finder}
-use Rattle.rc_launch.specs.declared.held_files.Finder.TheVariants.{GivenAgain, Other, TakesBack}
 use Rattle.rc_launch.specs.HistoryRecoveries.{HasPresent}
 use Rattle.rc_launch.specs.UpdateCrashes.{StandsOnPlace}
 use Rattle.rc_launch.proofs.PutTexts.{has_once}
-use Rattle.rc_launch.proofs.UndoneOnce.{UndoLaws, stands_so}
+use Rattle.rc_launch.proofs.UndoneOnce.{UndoLaws}
 use Rattle.rc_historytext.proofs.Kept.{as_oldest_count}
 use Rattle.rc_historytext.proofs.Presents.{at_end}
 use Rattle.rc_model.proofs.Lists.{all_between}
@@ -155,14 +150,6 @@ begun_last t g low =
           ∙ ap (λ (n : ℕ). n + 1) last;
     }
 
--- each command that finds a log there counts that of the log as a step
-step_all : (finder : Finder) (way passed last : Bool) → passed ≡ true → last ≡ true
-    → is_step finder way passed last ≡ true
-step_all GivenAgain way passed last is ends = refl
-step_all TakesBack way passed last is ends = is
-step_all Other way passed last is ends =
-    and_from passed (not way || last) is (or_right (not way) last ends)
-
 module _ (laws : UndoLaws) (list : List Conversion) (d : Database) (start : Line)
     (bytes kept : List ℕ) (is : IsDatabase d) (writable : IsWritable d)
     (enters : IsEntered bytes (database_text d) (spelling d start) list kept) where
@@ -184,20 +171,3 @@ module _ (laws : UndoLaws) (list : List Conversion) (d : Database) (start : Line
 
   pub entered_present : IsPresent kept (database_text d) (spelling d start)
   entered_present = (begins, own, entered_at, refl, refl)
-
-  pub entered_step : IsLineOf d start → start.before ≡ [] → start.after ≡ []
-      → (finder : Finder) (log : List ℕ) (keeping : Keeping)
-      → KeepsAs finder (Some kept) (spelling d start) log keeping → keeping ≡ Step
-  entered_step of before after finder log keeping by =
-      let (at, stands, passed, last) = by.passes_there in
-      let so = stands_so laws kept d start is of begins own entered_at refl at stands in
-      let first : passes at ≡ true =
-      or_left (at.before == 0 && at.first_passed) (at.after == 0 && at.last_passed)
-      (and_from (at.before == 0) at.first_passed
-      (eq-eqb at.before 0 (so.before ∙ ap length before)) so.first_passed) in
-      let ends : (at.after == 0 && at.later == 0) ≡ true =
-      and_from (at.after == 0) (at.later == 0) (eq-eqb at.after 0 (so.after ∙ ap length after))
-      (eq-eqb at.later 0 (omega (arith, so.later, lasts.last))) in
-      by.is
-      ∙ ap (λ (b : Bool). keeping_by b by.way)
-      (step_all finder by.way by.passed by.last (passed ∙ first) (last ∙ ends))

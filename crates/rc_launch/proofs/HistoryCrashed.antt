@@ -7,12 +7,10 @@ use Rattle.rc_model.specs.Line.{Line}
 use Rattle.rc_model.specs.Session.{IsLineOf}
 use Rattle.rc_dbtext.specs.Spelling.{spelling as database_text}
 use Rattle.rc_livetext.specs.Spelling.{Spells, spelling, text_of}
-use Rattle.rc_livetext.specs.Text.{IsLiveText, LiveText, live_text}
+use Rattle.rc_livetext.specs.Text.{live_text}
 use Rattle.rc_historytext.specs.declared.keeping.Keeping.{Keeping}
 use Rattle.rc_historytext.specs.declared.keeping.Keeping.TheVariants.{Command}
-use Rattle.rc_historytext.specs.Present.{IsPresent}
-use Rattle.rc_historytext.specs.States.{IsSession, cut_behind}
-use Rattle.rc_historytext.specs.Keeping.{StandsThere}
+use Rattle.rc_historytext.specs.Keeping.{IsKept, StandsThere}
 use Rattle.rc_historytext.specs.Updates.{StandsOn}
 use Rattle.rc_recovery.specs.Files.{AfterCrash, Append, Empty, Files, IsFront, Replace, Write}
 use Rattle.rc_recovery.specs.Files.{after}
@@ -23,9 +21,10 @@ use Rattle.rc_recovery.specs.UnderWay.{IsMore}
 use Rattle.rc_launch.specs.HistoryRecoveries.{AreCutOf, EndsWithHistory, HasPresent}
 use Rattle.rc_launch.specs.HistoryRecoveries.{IsKeptFor, beside}
 use Rattle.rc_launch.specs.HistoryCrashes.{EndsHistory, EndsInOneHistory, IsHistoryCrash}
-use Rattle.rc_launch.specs.HistoryCrashes.{IsHistoryMore, StandAlike}
-use Rattle.rc_launch.proofs.PutTexts.{IsKeptAs, TextLaws, has_once, kept_as, kept_cases}
-use Rattle.rc_launch.proofs.PutTexts.{kept_stays}
+use Rattle.rc_launch.specs.HistoryCrashes.{IsHistoryMore}
+use Rattle.rc_launch.specs.Keeping.{keeping_of}
+use Rattle.rc_launch.proofs.HeadSays.{SaysOnce, head_keeps, keeps_once}
+use Rattle.rc_launch.proofs.PutTexts.{has_once, kept_cases, kept_once, kept_stays}
 use Rattle.rc_launch.proofs.HistoryEnds.{Laws, RestsIn, all_reached, all_still, away_rests}
 use Rattle.rc_launch.proofs.HistoryEnds.{empty_rests, ends_still, enters_once, found_runs}
 
@@ -34,8 +33,7 @@ pub record CrashLaws : Type 0 where
   pub ends : Laws
   pub line : (d : Database) (bytes : List ℕ) (a b : Line) → IsDatabase d → IsLineOf d a
       → IsLineOf d b → Spells d bytes a → Spells d bytes b → a ≡ b
-  pub new : (d : Database) (line : Line) → IsDatabase d → IsLineOf d line
-      → IsLiveText (text_of d line)
+  pub said : SaysOnce
   pub crashes : (d : Database) (line new : Line) (l : Logged) (f g : Files)
       → IsCrash d line new l f g → EndsInOneLine d line new l f g
 
@@ -134,70 +132,6 @@ elsewhere text other kept new l f g (inr (inr (inr (inr later)))) =
 files_same : (f g : Files) → g.file ≡ f.file → g.log ≡ f.log → g ≡ f
 files_same f g one other i = files (one i) (other i)
 
--- the text of a line says it
-says_spelled : (d : Database) (line : Line) → IsLiveText (text_of d line)
-    → IsSession (spelling d line) (text_of d line)
-unfolding spelling
-says_spelled d line is = record { is = is; spelled = refl }
-
--- the present session of a history says the states of this text up to its current one
-record SaysSo (database text whole : List ℕ) : Type 0 where
-  session : List ℕ
-  there : IsPresent whole database session
-  s : LiveText
-  says : IsSession text s
-  r : LiveText
-  says_now : IsSession session r
-  before : r.before ≡ s.before
-  current : r.current ≡ s.current
-
-kept_says : (bytes database text whole : List ℕ) (s : LiveText) → IsSession text s
-    → (as_kept : IsKeptAs bytes database text whole) → SaysSo database text whole
-kept_says bytes database text whole s says as_kept = elim as_kept.is [
-  | inl same ↦ record {
-    session = as_kept.session;
-    there = as_kept.there;
-    s = s;
-    says = says;
-    r = s;
-    says_now = subst (λ (x : List ℕ). IsSession x s) (sym same) says;
-    before = refl;
-    current = refl;
-  }
-  | inr (r, says_text, says_cut) ↦ record {
-    session = as_kept.session;
-    there = as_kept.there;
-    s = r;
-    says = says_text;
-    r = cut_behind r;
-    says_now = says_cut;
-    before = refl;
-    current = refl;
-  }
-]
-
-module _ (laws : TextLaws) where
-  alike : (database text a b : List ℕ) → SaysSo database text a → SaysSo database text b
-      → StandAlike a b
-  alike database text a b one other =
-      let same : one.s ≡ other.s =
-      laws.live one.s other.s [] [] one.says.is other.says.is
-      (ap (λ (x : List ℕ). x ++ []) (sym one.says.spelled ∙ other.says.spelled)) in record {
-        database = database;
-        first = one.session;
-        second = other.session;
-        here = one.there;
-        there = other.there;
-        s = one.r;
-        r = other.r;
-        says_first = one.says_now;
-        says_second = other.says_now;
-        before =
-            one.before ∙ ap (λ (x : LiveText). x.before) same ∙ sym other.before;
-        current =
-            one.current ∙ ap (λ (x : LiveText). x.current) same ∙ sym other.current;
-      }
-
 module _ (laws : CrashLaws) (d : Database) (line new : Line) (keeping : Keeping) (l : Logged)
     (kept : List ℕ) (f g : Files) (c : IsHistoryCrash d line new keeping l kept f g) where
   present : HasPresent f.file d (spelling d line)
@@ -240,8 +174,8 @@ module _ (laws : CrashLaws) (d : Database) (line new : Line) (keeping : Keeping)
     found_same : (text whole : List ℕ) → text ≡ spelling d line
         → IsKeptFor (spelling d line) g text whole → whole ≡ g.file
     found_same text whole same found =
-        kept_stays found.1 g.file text whole (found_runs (spelling d line) g text whole found)
-        (subst (StandsThere g.file) (sym same) (database_text d, has_now.there)) found.3
+        kept_stays found.0 g.file text whole (found_runs (spelling d line) g text whole found)
+        (subst (StandsThere g.file) (sym same) (database_text d, has_now.there)) found.2
 
     begun : (beside (spelling d line) g ≡ beside (spelling d line) f)
         ⊎ IsFront g.log (spelling d line ++ l.step)
@@ -265,7 +199,7 @@ module _ (laws : CrashLaws) (d : Database) (line new : Line) (keeping : Keeping)
         inl (
           laws.line d (spelling d line) end line c.stands.is_database of c.stands.is_line
               (inl spelled) (inl refl),
-          same,
+          same ∙ file,
         ),
       ),
     ))
@@ -281,17 +215,27 @@ module _ (laws : CrashLaws) (d : Database) (line new : Line) (keeping : Keeping)
         let same : whole ≡ g.file =
         found_same text whole (spelled ∙ ap (spelling d) is) found in
         inl (same ∙ file, file, begun log)
-    enters text whole end of spelled found (inr (inl (events, holds, is))) = inr (inl (
-      events,
-      holds,
-      file,
-      (
-        end,
-        of,
-        is,
-        inr (subst (λ (x : List ℕ). IsKeptFor (spelling d line) g x whole) spelled found),
-      ),
-    ))
+    enters text whole end of spelled found (inr (inl ([], holds, is))) =
+        let same : whole ≡ g.file =
+        found_same text whole (spelled ∙ ap (spelling d) is) found in
+        inr (inl ([], holds, file, (end, of, is, inl (is, same ∙ file))))
+    enters text whole end of spelled (own, by, kept_by) (inr (inl (first ∷ more, holds, is))) =
+        let same : own ≡ keeping_of l =
+        head_keeps laws.said d line l first more g c.logged holds own by in
+        let now : IsKept own f.file (spelling d end) whole =
+        subst (λ (x : List ℕ). IsKept own x (spelling d end) whole) file
+        (subst (λ (x : List ℕ). IsKept own g.file x whole) spelled kept_by) in
+        inr (inl (
+          first ∷ more,
+          holds,
+          file,
+          (
+            end,
+            of,
+            is,
+            inr (subst (λ (k : Keeping). IsKept k f.file (spelling d end) whole) same now),
+          ),
+        ))
     enters text whole end of spelled found (inr (inr (is, there))) =
         let same : whole ≡ g.file =
         found_same text whole (spelled ∙ ap (spelling d) is ∙ sym there) found in
@@ -311,11 +255,12 @@ module _ (laws : CrashLaws) (d : Database) (line new : Line) (keeping : Keeping)
               enters text whole end of spelled found on
         ]
 
-    -- the text that an alone session would have in the end, of which the history says as much
+    -- the text that an alone session would have in the end, which the history keeps
     record EndsAlone (whole : List ℕ) : Type 0 where
       text : List ℕ
       ends : EndsIn d (beside (spelling d line) g) text
-      says : SaysSo (database_text d) text whole
+      kept_so : ((text ≡ spelling d line) × (whole ≡ g.file))
+          ⊎ IsKeptFor (spelling d line) g text whole
 
     ends_alone : (whole : List ℕ) → EndsWithHistory g whole → EndsAlone whole
     ends_alone whole ends =
@@ -323,47 +268,41 @@ module _ (laws : CrashLaws) (d : Database) (line new : Line) (keeping : Keeping)
           | inl (same, nothing) ↦ record {
             text = spelling d line;
             ends = ([], beside (spelling d line) g, refl, (None, nothing, refl));
-            says =
-                kept_says g.file (database_text d) (spelling d line) whole (text_of d line)
-                (says_spelled d line (laws.new d line c.stands.is_database c.stands.is_line))
-                (record {
-                  session = spelling d line;
-                  there =
-                      subst (λ (x : List ℕ). IsPresent x (database_text d) (spelling d line))
-                      (sym same) has_now.there;
-                  is = inl refl;
-                });
+            kept_so = inl (refl, same);
           }
-          | inr (text, told, entered, found) ↦
-              let (end, of, spelled, on) = one.ends text
-              ([], beside (spelling d line) g, refl, (Some text, (told, entered), refl)) in
-              record {
-                text = text;
-                ends = (
-                  [],
-                  beside (spelling d line) g,
-                  refl,
-                  (Some text, (told, entered), refl),
-                );
-                says =
-                    kept_says g.file (database_text d) text whole (text_of d end)
-                    (subst (λ (x : List ℕ). IsSession x (text_of d end)) (sym spelled)
-                    (says_spelled d end (laws.new d end c.stands.is_database of)))
-                    (kept_as laws.ends.texts g.file (database_text d) (spelling d line)
-                    has_now.there found.1 text whole
-                    (found_runs (spelling d line) g text whole found) found.3);
-              }
+          | inr (text, told, entered, found) ↦ record {
+            text = text;
+            ends = ([], beside (spelling d line) g, refl, (Some text, (told, entered), refl));
+            kept_so = inr found;
+          }
         ]
 
-    one_place : (whole other : List ℕ) → EndsWithHistory g whole → EndsWithHistory g other
-        → StandAlike whole other
-    one_place whole other a b =
+    found_once : (text a b : List ℕ) → IsKeptFor (spelling d line) g text a
+        → IsKeptFor (spelling d line) g text b → a ≡ b
+    found_once text a b (own, by, kept_by) (other, also, stood) =
+        kept_once laws.ends.texts own g.file text a b kept_by
+        (subst (λ (k : Keeping). IsKept k g.file text b)
+        (keeps_once (spelling d line) g.log other own also by) stood)
+
+    one_end : (whole other : List ℕ) → EndsWithHistory g whole → EndsWithHistory g other
+        → whole ≡ other
+    one_end whole other a b =
         let first = ends_alone whole a in
         let second = ends_alone other b in
-        let same : second.text ≡ first.text =
-        one.one second.text first.text second.ends first.ends in
-        alike laws.ends.texts (database_text d) first.text whole other first.says
-        (subst (λ (x : List ℕ). SaysSo (database_text d) x other) same second.says)
+        let same : first.text ≡ second.text =
+        one.one first.text second.text first.ends second.ends in
+        elim first.kept_so [
+          | inl (is, stays) ↦ elim second.kept_so [
+            | inl (at, stood) ↦ stays ∙ sym stood
+            | inr found ↦
+                stays ∙ sym (found_same second.text other (sym same ∙ is) found)
+          ]
+          | inr found ↦ elim second.kept_so [
+            | inl (at, stood) ↦ found_same first.text whole (same ∙ at) found ∙ sym stood
+            | inr more ↦ found_once second.text whole other
+                (subst (λ (x : List ℕ). IsKeptFor (spelling d line) g x whole) same found) more
+          ]
+        ]
 
     fits_now : (left : List Files) (h : Files) → AreCutOf g left h → (e : Database)
         (other : List ℕ) → HasPresent h.file e other → IsUnfit e other h.log → ⊥
@@ -395,19 +334,10 @@ module _ (laws : CrashLaws) (d : Database) (line new : Line) (keeping : Keeping)
             (spelling d new) kept g.log behind d present at puts))
       ]
 
-  -- it says the new line
-  kept_new : g.file ≡ kept → SaysSo (database_text d) (spelling d new) g.file
-  kept_new same =
-      subst (SaysSo (database_text d) (spelling d new)) (sym same)
-      (kept_says f.file (database_text d) (spelling d new) kept (text_of d new)
-      (says_spelled d new (laws.new d new c.stands.is_database c.new_of))
-      (kept_as laws.ends.texts f.file (database_text d) (spelling d line) c.stands.there keeping
-      (spelling d new) kept c.of_run c.kept_is))
-
   as_left : g.file ≡ f.file → EndsInOneHistory d line l kept f g
   as_left file = record {
     ends = as_it_was file;
-    one = one_place file;
+    one = one_end file;
     fits = fits_now file;
   }
 
@@ -418,10 +348,7 @@ module _ (laws : CrashLaws) (d : Database) (line new : Line) (keeping : Keeping)
       | inl file ↦ as_left file
       | inr rest ↦ record {
         one = λ whole other a b.
-            let Says : List ℕ → Type 0 = SaysSo (database_text d) (spelling d new) in
-            alike laws.ends.texts (database_text d) (spelling d new) whole other
-            (subst Says (sym (ends_still laws.ends g whole rest a)) (kept_new same))
-            (subst Says (sym (ends_still laws.ends g other rest b)) (kept_new same));
+            ends_still laws.ends g whole rest a ∙ sym (ends_still laws.ends g other rest b);
         ends = λ whole ends.
             inr (inr (ends_still laws.ends g whole rest ends ∙ same, same));
         fits = λ left h recoveries e other stands unfit.

@@ -10,7 +10,7 @@ use Rattle.rc_historytext.specs.Keeping.{StandsThere}
 use Rattle.rc_recovery.specs.Files.{Files}
 use Rattle.rc_recovery.specs.Recoveries.{IsAtRest, text_after}
 use Rattle.rc_recovery.specs.RunLog.{HasScript, IsEntered}
-use Rattle.rc_launch.specs.Keeping.{is_step, keeping_by}
+use Rattle.rc_launch.specs.Keeping.{keeping_by}
 use Rattle.rc_launch.specs.HistoryRecoveries.{AreCutOf, EndsWithHistory, EntersOnce, HasPresent}
 use Rattle.rc_launch.specs.HistoryRecoveries.{IsCutOf, IsKeptFor, MakesBy, MakesOf, beside}
 use Rattle.rc_launch.specs.HistoryCrashes.{IsOfRun}
@@ -23,15 +23,15 @@ pub record Laws : Type 0 where
   pub empty : (d : Database) (file : List ℕ) → IsAtRest d (record { file = file; log = [] })
 
 -- a recovery keeps what it enters as a command does that runs
-run_keeping : (step way : Bool) → IsOfRun (keeping_by step way)
+pub run_keeping : (step way : Bool) → IsOfRun (keeping_by step way)
 run_keeping true way = tt
 run_keeping false true = tt
 run_keeping false false = tt
 
 pub found_runs : (session : List ℕ) (f : Files) (text whole : List ℕ)
-    → (found : IsKeptFor session f text whole) → IsOfRun found.1
-found_runs session f text whole (finder, keeping, by, kept) =
-    subst IsOfRun (sym by.is) (run_keeping (is_step finder by.way by.passed by.last) by.way)
+    → (found : IsKeptFor session f text whole) → IsOfRun found.0
+found_runs session f text whole (keeping, by, kept) =
+    subst IsOfRun (sym by.is) (run_keeping by.step by.way)
 
 -- nothing is entered of a history, whatever is present in it, and nothing is wrong with its log
 abbrev pub RestsIn : Files → Type 0
@@ -129,8 +129,8 @@ module _ (laws : Laws) where
         → IsKeptFor session f text whole → (h : Files)
         → h ≡ record { file = whole; log = f.log } → Reached h
     replaced text told whole entered found h at =
-        elim (kept_cases found.1 f.file text whole (found_runs session f text whole found)
-        found.3) [
+        elim (kept_cases found.0 f.file text whole (found_runs session f text whole found)
+        found.2) [
           | inl same ↦
               inl (at ∙ ap (λ (x : List ℕ). record { file = x; log = f.log }) same)
           | inr puts ↦ inr (
@@ -141,7 +141,7 @@ module _ (laws : Laws) where
               subst (IsKeptFor session f text) (sym (ap (λ (x : Files). x.file) at)) found,
             ),
             subst RestsIn (sym at)
-                (away_rests found.1 f.file session text text whole f.log entered.1.1.0 d has
+                (away_rests found.0 f.file session text text whole f.log entered.1.1.0 d has
                 entered.1.1.1 puts),
           )
         ]

@@ -31,6 +31,8 @@ mod StepLemmas
 mod ReadLemmas
 -- The present generation of a history, and that of one in which a session was put.
 mod PutTexts
+-- What the head of a run log says: how its command has left the states of the session.
+mod HeadSays
 -- What recoveries of a history leave.
 mod HistoryEnds
 -- The writes of several steps, one after the other.

@@ -1,7 +1,7 @@
 -- The present generation of a history, and that of one in which a session was put.
 use Rattle.std.proofs.Common.{◌≡◌, ◌∙◌, ◌⊎◌, ◌+◌, ◌<◌, ◌≤◌, inl, inr, ℕ, zero, suc, Bool, true}
 use Rattle.std.proofs.Common.{false, List, [], ◌∷◌, ◌++◌, take, drop, Some, slice_get, arith, refl}
-use Rattle.std.proofs.Common.{sym, ap, subst}
+use Rattle.std.proofs.Common.{sym, ap, subst, ◌↔◌, IsTrue, if◌then◌else◌}
 use Rattle.std.proofs.lemmas.List.{append-nil}
 use Rattle.std.proofs.lemmas.Option.{none-some, same_Some}
 use Rattle.rc_model.specs.Database.{Database, IsDatabase}
@@ -12,9 +12,12 @@ use Rattle.rc_historytext.specs.declared.keeping.Keeping.{Keeping}
 use Rattle.rc_historytext.specs.declared.keeping.Keeping.TheVariants.{Command, Way, Step, Seal}
 use Rattle.rc_historytext.specs.Text.{GenerationText, HistoryText, IsHistoryText, history_text}
 use Rattle.rc_historytext.specs.Moves.{as_oldest, with_session, with_session_at}
-use Rattle.rc_historytext.specs.States.{Cuts}
+use Rattle.rc_historytext.specs.States.{Cuts, IsSession, cut_behind}
+use Rattle.rc_historytext.specs.Marking.{AreMarks, KeepsFirst, KeepsLast, first_of_two}
+use Rattle.rc_historytext.specs.Marking.{is_alone, last_of_two, mark_alone}
 use Rattle.rc_historytext.specs.Present.{IsAt, IsPresent}
-use Rattle.rc_historytext.specs.Keeping.{IsKept, IsPut, StandsThere, cut_earlier, cut_later}
+use Rattle.rc_historytext.specs.Keeping.{IsKept, IsPut, IsPutOnce, StandsThere, cut_earlier}
+use Rattle.rc_historytext.specs.Keeping.{PutsInto, cut_later, left_by}
 use Rattle.rc_launch.specs.HistoryRecoveries.{HasPresent}
 use Rattle.rc_launch.specs.HistoryCrashes.{IsOfRun}
 use Rattle.rc_historytext.proofs.UpdatedTexts.{put_there, taken_there}
@@ -185,52 +188,101 @@ kept_stays Step bytes text kept run there (inl stays) = stays.1
 kept_stays Step bytes text kept run there (inr other) = absurd (other.0 there)
 kept_stays Seal bytes text kept run there is = absurd run
 
--- the present session afterwards, by the present database: that which is kept, or that without what
--- comes after its current state
-pub record IsKeptAs (bytes database text kept : List ℕ) : Type 0 where
-  pub session : List ℕ
-  pub there : IsPresent kept database session
-  pub is : (session ≡ text) ⊎ Cuts text session
+-- two flags are the same that say the same
+pub same_flag : (P : Type 0) (a b : Bool) → (IsTrue a ↔ P) → (IsTrue b ↔ P) → a ≡ b
+same_flag P true true one other = refl
+same_flag P false false one other = refl
+same_flag P true false one other = sym (other.1 (one.0 refl))
+same_flag P false true one other = one.1 (other.0 refl)
 
-module _ (laws : TextLaws) (bytes database session : List ℕ)
-    (present : IsPresent bytes database session) where
-  stays_as : (text other kept : List ℕ) → StandsThere bytes other → kept ≡ bytes
-      → (other ≡ text) ⊎ Cuts text other → IsKeptAs bytes database text kept
-  stays_as text other kept (base, stands) same is = record {
-    session = other;
-    there =
-        subst (λ (x : List ℕ). IsPresent x database other) (sym same)
-        (subst (λ (b : List ℕ). IsPresent bytes b other)
-        (present_once laws bytes base other database session stands present).0 stands);
-    is = is;
-  }
+module _ (laws : TextLaws) where
+  session_once : (bytes : List ℕ) (s r : LiveText) → IsSession bytes s → IsSession bytes r → s ≡ r
+  session_once bytes s r one other =
+      laws.live s r [] [] one.is other.is
+      (ap (λ (x : List ℕ). x ++ []) (sym one.spelled ∙ other.spelled))
 
-  put_as : (keeping : Keeping) (text other kept : List ℕ) → IsPut keeping bytes other kept
-      → (other ≡ text) ⊎ Cuts text other → IsKeptAs bytes database text kept
-  put_as keeping text other kept put is =
-      let now = put_stands keeping bytes other kept put in record {
-        session = other;
-        there = (
-          now.0,
-          now.1,
-          now.2,
-          now.3
-              ∙ (present_once laws bytes put.1.database put.1.session database session
-              (put.0, put.1, put.3, refl, refl) present).0,
-          now.4,
-        );
-        is = is;
-      }
+  -- a session that is put into a history leaves one, with one set of marks
+  left_once : (keeping : Keeping) (t : HistoryText) (g : GenerationText) (session : List ℕ)
+      (a b : HistoryText) → PutsInto keeping t g session a → PutsInto keeping t g session b → a ≡ b
+  left_once keeping t g session a b puts into =
+      let old : LiveText = puts.marks.0 in
+      let new : LiveText = puts.marks.1 in
+      let Are : LiveText → LiveText → Type 0 = λ s r. AreMarks keeping g s r into.m in
+      let one : AreMarks keeping g old new puts.m = puts.marks.4 in
+      let other : AreMarks keeping g old new into.m =
+      subst (λ (s : LiveText). Are s new)
+      (session_once g.session into.marks.0 old into.marks.2 puts.marks.2)
+      (subst (λ (r : LiveText). Are into.marks.0 r)
+      (session_once session into.marks.1 new into.marks.3 puts.marks.3) into.marks.4) in
+      let first_kept : puts.m.keeps_first ≡ into.m.keeps_first =
+      same_flag (KeepsFirst keeping old new) puts.m.keeps_first into.m.keeps_first one.keeps_first
+      other.keeps_first in
+      let last_kept : puts.m.keeps_last ≡ into.m.keeps_last =
+      same_flag (KeepsLast keeping old new) puts.m.keeps_last into.m.keeps_last one.keeps_last
+      other.keeps_last in
+      let first : puts.m.first_passed ≡ into.m.first_passed =
+      one.first ∙ (λ i. if is_alone new then mark_alone keeping (record {
+        keeps_first = first_kept i;
+        keeps_last = last_kept i;
+        first_passed = false;
+        last_passed = false;
+      }) g old new else first_of_two keeping (record {
+        keeps_first = first_kept i;
+        keeps_last = last_kept i;
+        first_passed = false;
+        last_passed = false;
+      }) g old) ∙ sym other.first in
+      let last : puts.m.last_passed ≡ into.m.last_passed =
+      one.last ∙ (λ i. if is_alone new then mark_alone keeping (record {
+        keeps_first = first_kept i;
+        keeps_last = last_kept i;
+        first_passed = false;
+        last_passed = false;
+      }) g old new else last_of_two keeping (record {
+        keeps_first = first_kept i;
+        keeps_last = last_kept i;
+        first_passed = false;
+        last_passed = false;
+      }) g old new) ∙ sym other.last in
+      puts.left ∙ (λ i. left_by (record {
+        keeps_first = first_kept i;
+        keeps_last = last_kept i;
+        first_passed = first i;
+        last_passed = last i;
+      }) t session) ∙ sym into.left
 
-  pub kept_as : (keeping : Keeping) (text kept : List ℕ) → IsOfRun keeping
-      → IsKept keeping bytes text kept → IsKeptAs bytes database text kept
-  kept_as Command text kept run (inl stays) = stays_as text text kept stays.0 stays.1 (inl refl)
-  kept_as Command text kept run (inr other) = put_as Command text text kept other.1 (inl refl)
-  kept_as Way text kept run (inl stays) = stays_as text text kept stays.0 stays.1 (inl refl)
-  kept_as Way text kept run (inr other) = put_as Way text text kept other.1 (inl refl)
-  kept_as Step text kept run (inl stays) = stays_as text text kept stays.0 stays.1 (inl refl)
-  kept_as Step text kept run (inr (none, cut, cuts, inl stays)) =
-      stays_as text cut kept stays.0 stays.1 (inr cuts)
-  kept_as Step text kept run (inr (none, cut, cuts, inr other)) =
-      put_as Step text cut kept other.1 (inr cuts)
-  kept_as Seal text kept run is = absurd run
+  put_once : (keeping : Keeping) (bytes session a b : List ℕ) → IsPut keeping bytes session a
+      → IsPut keeping bytes session b → a ≡ b
+  put_once keeping bytes session a b (t, g, new, at, puts, is) (u, h, other, there, into, was) =
+      let place = place_once laws bytes t u g h at there in
+      let same : PutsInto keeping t g session other =
+      subst (λ (x : HistoryText). PutsInto keeping x g session other) (sym place.0)
+      (subst (λ (x : GenerationText). PutsInto keeping u x session other) (sym place.1) into) in
+      is ∙ ap history_text (left_once keeping t g session new other puts same) ∙ sym was
+
+  once_once : (keeping : Keeping) (bytes session a b : List ℕ) → IsPutOnce keeping bytes session a
+      → IsPutOnce keeping bytes session b → a ≡ b
+  once_once keeping bytes session a b (inl stays) (inl stood) = stays.1 ∙ sym stood.1
+  once_once keeping bytes session a b (inl stays) (inr other) = absurd (other.0 stays.0)
+  once_once keeping bytes session a b (inr puts) (inl stood) = absurd (puts.0 stood.0)
+  once_once keeping bytes session a b (inr puts) (inr other) =
+      put_once keeping bytes session a b puts.1 other.1
+
+  cut_once : (text a b : List ℕ) → Cuts text a → Cuts text b → a ≡ b
+  cut_once text a b (s, says, cut) (r, reads, other) =
+      cut.spelled
+      ∙ ap (λ (x : LiveText). live_text (cut_behind x)) (session_once text s r says reads)
+      ∙ sym other.spelled
+
+  -- a text is kept in one way
+  pub kept_once : (keeping : Keeping) (bytes text a b : List ℕ) → IsKept keeping bytes text a
+      → IsKept keeping bytes text b → a ≡ b
+  kept_once Command bytes text a b one other = once_once Command bytes text a b one other
+  kept_once Way bytes text a b one other = once_once Way bytes text a b one other
+  kept_once Step bytes text a b (inl stays) (inl stood) = stays.1 ∙ sym stood.1
+  kept_once Step bytes text a b (inl stays) (inr other) = absurd (other.0 stays.0)
+  kept_once Step bytes text a b (inr puts) (inl stood) = absurd (puts.0 stood.0)
+  kept_once Step bytes text a b (inr (new, cut, cuts, one)) (inr (none, out, outs, other)) =
+      once_once Step bytes cut a b one
+      (subst (λ (x : List ℕ). IsPutOnce Step bytes x b) (cut_once text out cut outs cuts) other)
+  kept_once Seal bytes text a b one other = put_once Seal bytes text a b one other

@@ -5,19 +5,16 @@ use Rattle.rc_model.specs.Database.{Database}
 use Rattle.rc_model.specs.Line.{Line}
 use Rattle.rc_model.specs.Session.{IsLineOf}
 use Rattle.rc_livetext.specs.Spelling.{spelling}
-use Rattle.rc_livetext.specs.Text.{LiveText}
 use Rattle.rc_historytext.specs.declared.keeping.Keeping.{Keeping}
 use Rattle.rc_historytext.specs.declared.keeping.Keeping.TheVariants.{Seal}
 use Rattle.rc_historytext.specs.Keeping.{IsKept}
-use Rattle.rc_historytext.specs.Present.{IsPresent}
-use Rattle.rc_historytext.specs.States.{IsSession}
 use Rattle.rc_historytext.specs.Updates.{StandsOn}
 use Rattle.rc_recovery.specs.Files.{AfterCrash, Append, Files, IsFront, after}
 use Rattle.rc_recovery.specs.Logging.{HoldEvents, IsLogged, Logged, writes_of}
 use Rattle.rc_recovery.specs.Recoveries.{IsAtRest, IsLineAfter}
 use Rattle.rc_recovery.specs.RunLog.{EndsWhole, IsUnfit}
-use Rattle.rc_launch.specs.HistoryRecoveries.{AreCutOf, EndsWithHistory, HasPresent, IsKeptFor}
-use Rattle.rc_launch.specs.HistoryRecoveries.{beside}
+use Rattle.rc_launch.specs.HistoryRecoveries.{AreCutOf, EndsWithHistory, HasPresent, beside}
+use Rattle.rc_launch.specs.Keeping.{keeping_of}
 
 -- what a command does that runs: all but a seal
 abbrev pub IsOfRun : Keeping → Type 0
@@ -37,11 +34,11 @@ pub record IsHistoryCrash (d : Database) (line new : Line) (keeping : Keeping) (
   pub rest : IsAtRest d (beside (spelling d line) f)
   pub crash : AfterCrash (writes_of (spelling d line) l kept) f g
 
--- a line is kept in the history as some command does that finds the log; the history stays if it is
--- the line as it was
-abbrev pub KeepsEnd : Database → (line end : Line) → Files → (whole : List ℕ) → Type 0
-KeepsEnd d line end g whole = ((end ≡ line) × (whole ≡ g.file))
-    ⊎ IsKeptFor (spelling d line) g (spelling d end) whole
+-- a line is kept in the history as a command does that logs this; the history stays if it is the
+-- line as it was
+abbrev pub KeepsEnd : Database → (line end : Line) → Logged → (bytes whole : List ℕ) → Type 0
+KeepsEnd d line end l bytes whole = ((end ≡ line) × (whole ≡ bytes))
+    ⊎ IsKept (keeping_of l) bytes (spelling d end) whole
 
 -- the history in the end is the one before, and the log was not begun or says no event; or the one
 -- before, in which the line is kept that exactly the logged events lead to; or the new one, which
@@ -53,30 +50,16 @@ EndsHistory d line l kept f g whole =
     × ((g ≡ f) ⊎ IsFront g.log (spelling d line ++ l.step)))
     ⊎ ((events : List Event) × HoldEvents d line l events (beside (spelling d line) g)
     × (g.file ≡ f.file) × ((end : Line) × IsLineOf d end
-    × IsLineAfter d line l.command events end × KeepsEnd d line end g whole))
+    × IsLineAfter d line l.command events end × KeepsEnd d line end l f.file whole))
     ⊎ ((whole ≡ kept) × (g.file ≡ kept))
 
--- two histories stand on one state of one database, and the same states come before it
-pub record StandAlike (a b : List ℕ) : Type 0 where
-  pub database : List ℕ
-  pub first : List ℕ
-  pub second : List ℕ
-  pub here : IsPresent a database first
-  pub there : IsPresent b database second
-  pub s : LiveText
-  pub r : LiveText
-  pub says_first : IsSession first s
-  pub says_second : IsSession second r
-  pub before : s.before ≡ r.before
-  pub current : s.current ≡ r.current
-
--- whatever recoveries are cut short, and whichever commands they are of: the history in the end is
--- as `EndsHistory` says, and stands on one state; none of them finds a log that can't be entered
+-- whatever recoveries are cut short: the history in the end is as `EndsHistory` says, and the same
+-- one; none of them finds a log that can't be entered
 pub record EndsInOneHistory (d : Database) (line : Line) (l : Logged) (kept : List ℕ)
     (f g : Files) : Type 0 where
   pub ends : (whole : List ℕ) → EndsWithHistory g whole → EndsHistory d line l kept f g whole
   pub one : (whole other : List ℕ) → EndsWithHistory g whole → EndsWithHistory g other
-      → StandAlike whole other
+      → whole ≡ other
   pub fits : (left : List Files) (h : Files) → AreCutOf g left h → (e : Database)
       (session : List ℕ) → HasPresent h.file e session → IsUnfit e session h.log → ⊥
 

@@ -11,7 +11,6 @@ use Rattle.rc_recovery.specs.Files.{AfterCrash, Files}
 use Rattle.rc_recovery.specs.Recoveries.{recovery_writes, text_after}
 use Rattle.rc_recovery.specs.RunLog.{HasNothing, IsEntered}
 use Rattle.rc_launch.specs.Keeping.{KeepsAs}
-use Rattle.rc_launch.specs.declared.held_files.Finder.{Finder}
 
 -- the present generation of a history has the text of this database, and this text of a session
 pub record HasPresent (bytes : List ℕ) (d : Database) (session : List ℕ) : Type 0 where
@@ -23,11 +22,10 @@ pub record HasPresent (bytes : List ℕ) (d : Database) (session : List ℕ) : T
 abbrev pub beside : (text : List ℕ) → Files → Files
 beside text f = record { file = text; log = f.log }
 
--- a text is kept in the history, in the place of its present session, as some command does that
--- finds the log
+-- a text is kept in the history, in the place of its present session, as the log says
 abbrev pub IsKeptFor : (session : List ℕ) → Files → (text whole : List ℕ) → Type 0
-IsKeptFor session f text whole = (finder : Finder) × (keeping : Keeping)
-    × KeepsAs finder (Some f.file) session f.log keeping × IsKept keeping f.file text whole
+IsKeptFor session f text whole = (keeping : Keeping)
+    × KeepsAs session f.log keeping × IsKept keeping f.file text whole
 
 -- what a recovery makes by a database and the present session: a new history, or there is nothing
 -- to enter
@@ -58,7 +56,7 @@ EndsWithHistory f end = (left : List Files) × (g : Files) × AreCutOf f left g
     × ((made : Option (List ℕ)) × MakesOf g made × (end ≡ text_after g made))
 
 -- the history in the end is the one that stood there, and there was nothing to enter; or what the
--- log says is entered once, and kept as some command does
+-- log says is entered once, and kept as the log says
 abbrev pub EntersOnce : Database → (session : List ℕ) → Files → (end : List ℕ) → Type 0
 EntersOnce d session f end = ((end ≡ f.file) × HasNothing d session f.log)
     ⊎ ((text : List ℕ) × (told : List ℕ) × IsEntered d session f.log text told

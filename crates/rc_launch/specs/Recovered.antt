@@ -1,20 +1,13 @@
 -- What came of a run log beside the file of a session that is locked.
-use Rattle.std.specs.Prelude.{◌≡◌, ◌↔◌, ℕ, Bool, IsTrue, List, [], Option, None, Some, map}
-use Rattle.std.specs.Prelude.{option_map, string_bytes, unwrap_or}
+use Rattle.std.specs.Prelude.{◌≡◌, ℕ, List, [], Option, None, Some, option_map, unwrap_or}
 use Rattle.std.specs.Borrow.{Bor}
 use Rattle.rc_recovery.specs.Files.{Files}
-use Rattle.rc_update.specs.Conversions.{conversions_of}
-use Rattle.rc_cli.specs.Begun.{BeginsRestart, BeginsUpdate}
 use Rattle.rc_launch.specs.Held.{files_held}
 use Rattle.rc_launch.specs.Logs.{IsCutBy}
 use Rattle.rc_launch.specs.Recovering.{IsNoBase, Leaves, LeavesNothing}
-use Rattle.rc_launch.specs.Keeping.{KeepsAs, finder_by}
-use Rattle.rc_launch.specs.Loading.{bytes_in, bytes_of, history_read}
+use Rattle.rc_launch.specs.Loading.{bytes_in}
 use Rattle.rc_launch.specs.declared.held_files.HeldFiles.{HeldFiles}
 use Rattle.rc_launch.specs.declared.loading.Loaded.{Loaded}
-use Rattle.rc_args.specs.declared.session_command.SessionCommand.{SessionCommand}
-use Rattle.rc_args.specs.declared.session_command.SessionCommand.TheVariants.{Restart, Update}
-use Rattle.rc_launch.specs.declared.texts.FileText.{FileText}
 use Rattle.rc_launch.specs.declared.recovered.Came.{Came}
 use Rattle.rc_launch.specs.declared.recovered.Came.TheVariants.{Entered, NoDatabase, Nothing}
 use Rattle.rc_launch.specs.declared.recovered.Came.TheVariants.{Stale}
@@ -69,20 +62,3 @@ abbrev pub report_of : Recovery → Option (List ℕ)
 report_of (recovery.Bare log) = None
 report_of (recovery.Made read held (Entered report)) = Some report.items
 report_of (recovery.Made read held other) = None
-
--- the log that was read is that of the first step of the update or the restart that is asked for
-abbrev pub IsFirstStepOf : SessionCommand → (old new : Option FileText) → ReadFiles → Type 0
-IsFirstStepOf (Update request) old new read = BeginsUpdate (bytes_of old) (bytes_of new)
-    (conversions_of request.conversions.items) (files_read read).file (files_read read).log
-IsFirstStepOf (Restart request) old new read = BeginsRestart (map string_bytes request.names.items)
-    (files_read read).file (files_read read).log
-IsFirstStepOf other old new read = ⊥
-
-abbrev pub IsFirstStep : Loaded → ReadFiles → Type 0
-IsFirstStep loaded read = IsFirstStepOf loaded.command loaded.base loaded.new read
-
--- what is entered of the log is kept as the command of the log has left the states of the session
-abbrev pub IsHeldFor : Loaded → ReadFiles → HeldFiles → Type 0
-IsHeldFor loaded read held = (first : Bool) × (IsTrue first ↔ IsFirstStep loaded read)
-    × KeepsAs (finder_by first loaded.command) (history_read read) (files_read read).file
-    (files_read read).log held.keeping

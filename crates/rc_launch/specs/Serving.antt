@@ -1,5 +1,5 @@
 -- What a command comes to on what was read for it.
-use Rattle.std.specs.Prelude.{◌≡◌, ℕ, List, [], Option, false}
+use Rattle.std.specs.Prelude.{◌≡◌, ℕ, Bool, true, false, List, [], Option}
 use Rattle.std.specs.Prelude.{option_map, IfOk, OnErr}
 use Rattle.std.specs.Prelude.{Result, map, string_bytes}
 use Rattle.rc_args.specs.NamedAsked.{named_ask_of}
@@ -37,6 +37,17 @@ logged_of other = record { text = []; is_cut = false }
 abbrev pub IsReadAs : {E B : Type 0} → (B → List ℕ) → Result (Option B) E → LiveFile → Type 0
 IsReadAs bytes found file = IfOk found (λ held. IsFound (option_map bytes held) file)
     × OnErr found (IsUnread file)
+
+-- whether a command keeps its states as steps where it is launched
+abbrev pub takes_steps : SessionCommand → Bool
+takes_steps (command.Update request) = true
+takes_steps (command.Restart request) = true
+takes_steps other = false
+
+-- whether a restart is launched, both steps of which are kept as such
+abbrev pub is_restart : Service → Bool
+is_restart (Restart names) = true
+is_restart other = false
 
 -- a session of the one line of a request
 abbrev pub IsLineOf : OnceRequest → Service → Type 0

@@ -1,5 +1,5 @@
 -- The writes of an update, and what one undo restores after a crash within them.
-use Rattle.std.specs.Prelude.{◌≡◌, ◌⊎◌, ◌++◌, ◌∷◌, [], ℕ, List, false}
+use Rattle.std.specs.Prelude.{◌≡◌, ◌⊎◌, ◌++◌, ◌∷◌, [], ℕ, Bool, true, false, List}
 use Rattle.rc_model.specs.declared.Event.{Event}
 use Rattle.rc_model.specs.Database.{Database}
 use Rattle.rc_model.specs.Line.{Line}
@@ -17,11 +17,12 @@ use Rattle.rc_recovery.specs.Files.{Replace, Write}
 use Rattle.rc_recovery.specs.Logging.{IsLogged, Logged, unlogged_writes, writes_of}
 
 -- a change writes this, where the history is replaced in the end by the kept one: its log, too, if
--- it starts programs
-abbrev pub WritesChange : Database → Line → Ask → (kept : List ℕ) → List Write → Type 0
-WritesChange d line ask kept writes =
-    ((l : Logged) × (events : List Event) × (l.command ≡ Change ask events) × IsLogged d line l
-    × (writes ≡ writes_of (spelling d line) l kept))
+-- it starts programs, which is marked where the change is one of several steps
+abbrev pub WritesChange : (marked : Bool) → Database → Line → Ask → (kept : List ℕ) → List Write
+    → Type 0
+WritesChange marked d line ask kept writes =
+    ((l : Logged) × (events : List Event) × (l.command ≡ Change ask events)
+    × (l.marked ≡ marked) × IsLogged d line l × (writes ≡ writes_of (spelling d line) l kept))
     ⊎ (writes ≡ unlogged_writes kept)
 
 -- an update, and all that it writes, in this order: its first half, the border, its second half,
@@ -34,8 +35,8 @@ pub record WritesUpdate (list : List Conversion) (d : Database) (bytes next : Li
   pub settles : IsSettled done next
   pub first : List Write
   pub second : List Write
-  pub lowering : WritesChange update.base update.line update.lowers.ask update.half first
-  pub raising : WritesChange d update.start update.raises.ask done second
+  pub lowering : WritesChange true update.base update.line update.lowers.ask update.half first
+  pub raising : WritesChange true d update.start update.raises.ask done second
   pub is : writes ≡ first ++ Replace update.entered ∷ (second ++ Replace next ∷ [])
 
 -- a history stands on a place: on this state of this database

@@ -2,26 +2,21 @@
 use Rattle.std.specs.Prelude.{◌≡◌, ◌⊎◌, ◌++◌, ◌∷◌, ◌&&◌, [], ℕ, zero, suc, Bool, true}
 use Rattle.std.specs.Prelude.{◌<◌, List, false, length}
 use Rattle.rc_model.specs.declared.Event.{Event}
-use Rattle.rc_model.specs.Database.{Database, IsDatabase}
+use Rattle.rc_model.specs.Database.{Database}
 use Rattle.rc_model.specs.Line.{Line, states}
-use Rattle.rc_model.specs.Session.{IsLineOf}
-use Rattle.rc_db.specs.Database.{IsWritable}
-use Rattle.rc_dbtext.specs.Spelling.{spelling as database_text}
 use Rattle.rc_livetext.specs.Spelling.{spelling}
-use Rattle.rc_historytext.specs.declared.keeping.Keeping.TheVariants.{Step}
-use Rattle.rc_historytext.specs.Halting.{EndsInside, MayDo, StaysAt}
-use Rattle.rc_historytext.specs.Keeping.{IsKept}
-use Rattle.rc_historytext.specs.Present.{IsPresent, StandingText, StandsAt, crosses, passes_next}
+use Rattle.rc_historytext.specs.Halting.{EndsInside, StaysAt}
+use Rattle.rc_historytext.specs.Present.{StandingText, StandsAt, crosses, passes_next}
 use Rattle.rc_historytext.specs.Travelling.{CrossesOver, GoesOn, PassesTo, StepsTo, way_command}
 use Rattle.rc_recovery.specs.Files.{Replace, Write}
 use Rattle.rc_recovery.specs.Logging.{IsLogged, Logged, unlogged_writes, writes_of}
 
 -- the run of an undo (not `on`) or a redo (`on`) writes this, where the history is replaced in the
 -- end by the kept one: its log, too, if it starts programs
-abbrev pub WritesRun : (on : Bool) → Database → Line → (kept : List ℕ) → List Write → Type 0
-WritesRun on d line kept writes =
+abbrev pub WritesRun : (marked on : Bool) → Database → Line → (kept : List ℕ) → List Write → Type 0
+WritesRun marked on d line kept writes =
     ((l : Logged) × (limit : ℕ) × (events : List Event)
-    × (l.command ≡ way_command on limit events) × IsLogged d line l
+    × (l.command ≡ way_command on limit events) × (l.marked ≡ marked) × IsLogged d line l
     × (writes ≡ writes_of (spelling d line) l kept))
     ⊎ (writes ≡ unlogged_writes kept)
 
@@ -30,7 +25,7 @@ WritesRun on d line kept writes =
 pub record WritesInside (on : Bool) (bytes next : List ℕ) (writes : List Write) : Type 0 where
   pub ends : EndsInside on bytes next
   pub spelled : ends.session ≡ spelling ends.base ends.line
-  pub is : WritesRun on ends.base ends.line next writes
+  pub is : WritesRun false on ends.base ends.line next writes
 
 -- a step and what it writes: such a run, or a border that is crossed
 abbrev pub WritesStep : (on : Bool) → (bytes next : List ℕ) → List Write → Type 0
@@ -51,24 +46,10 @@ WritesWay on bytes next writes = (n : ℕ) × (between : List ℕ) × (first : L
     × (second : List Write) × WritesPasses n on bytes between first
     × WritesStep on between next second × (writes ≡ first ++ second)
 
--- what is left of a run inside the present generation is kept as a step of a command that has
--- several: what comes after it is cut off
-pub record EndsAsStep (on : Bool) (bytes next : List ℕ) : Type 0 where
-  pub base : Database
-  pub line : Line
-  pub new : Line
-  pub there : IsPresent bytes (database_text base) (spelling base line)
-  pub is_database : IsDatabase base
-  pub writable : IsWritable base
-  pub is_line : IsLineOf base line
-  pub left : MayDo base on line new
-  pub kept : IsKept Step bytes (spelling base new) next
-
 -- what a crash leaves of a step: the history as it was, or a run inside the present generation left
--- it; or the border is crossed; or what the run left is kept as a step
+-- it; or the border is crossed
 abbrev pub LeavesStep : (on : Bool) → (bytes end : List ℕ) → Type 0
 LeavesStep on bytes end = StaysAt on bytes end ⊎ CrossesOver on bytes end
-    ⊎ EndsAsStep on bytes end
 
 -- what a crash leaves of an undo or a redo: whole steps lead on, and then it is left by one more
 abbrev pub LeavesWay : (on : Bool) → (bytes end : List ℕ) → Type 0

@@ -4,14 +4,13 @@ ghost use Rattle.std.specs.Prelude.{◌≡◌, IfOk};
 ghost use Rattle.rc_launch.specs.Asking.{has_ended};
 
 use crate::fault::OpenFault;
-use crate::held_files::{Finder, HeldFiles};
+use crate::held_files::HeldFiles;
 use crate::left_programs::await_left;
 use crate::loading::Loaded;
 use crate::texts::{LogText, ReadFiles};
 use rc_cli::controller_of;
 use rc_db::Db;
 use rc_dbtext::{TextFault, database_of};
-use rc_historytext::HistoryFault;
 use rc_names::{Names, NoMem};
 use rc_recovery::{FileFault, UnderWay, log_end, under_way};
 use rc_runner::{Found, ask, question_for};
@@ -155,11 +154,7 @@ fn log_ends(
     if ended.is_empty() {
         return Ok(false);
     }
-    let mut held = match HeldFiles::new(rt, read, Finder::Other) {
-        Ok(held) => held,
-        Err(HistoryFault::Memory) => return Err(AllocError),
-        Err(_) => return Ok(false),
-    };
+    let mut held = HeldFiles::new(rt, read)?;
     let logged = log_each(rt, names, &mut held, ended);
     drop(held);
     logged

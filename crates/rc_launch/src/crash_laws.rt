@@ -14,7 +14,7 @@ ghost use Rattle.rc_update.specs.Distinct.{AreDistinct};
 ghost use Rattle.rc_livetext.specs.Spelling.{spelling};
 ghost use Rattle.rc_history.specs.History.{History, IsHistory, Place, place_in, place_now};
 ghost use Rattle.rc_historytext.specs.declared.keeping.Keeping.{Keeping};
-ghost use Rattle.rc_historytext.specs.declared.keeping.Keeping.TheVariants.{Command, Way};
+ghost use Rattle.rc_historytext.specs.declared.keeping.Keeping.TheVariants.{Command};
 ghost use Rattle.rc_historytext.specs.Halting.{MayDo};
 ghost use Rattle.rc_historytext.specs.Keeping.{IsKept};
 ghost use Rattle.rc_historytext.specs.Places.{GivesHistory};
@@ -43,7 +43,7 @@ use rc_recovery::crash::laws::{
 
 /// Recoveries of a history may be cut short, and each may be that of another command. In the end
 /// the history is as it was, and there was nothing to enter; or what the log of its present session
-/// says is entered once, and kept as one of these commands keeps it.
+/// says is entered once, and kept as the log says.
 pub fn recoveries_enter_once()
     ensures { (d : Database) (session : List ℕ) (f : Files) (end : List ℕ) →
         HasPresent f.file d session → EndsWithHistory f end → EntersOnce d session f end }
@@ -56,9 +56,9 @@ pub fn recoveries_enter_once()
 
 /// A command on a history crashes at any point. Recoveries follow, each of any command, and each
 /// crashes at any point. The next one that is not cut short leaves the history as it was; or with
-/// the line that exactly the events of the log lead to, kept as one of these commands keeps it; or
-/// the history that the command was to write. Whatever they were, it stands on one state of one
-/// database. No recovery finds a log that can't be entered.
+/// the line that exactly the events of the log lead to, kept as the mark and the step of the log
+/// say; or the history that the command was to write. Whatever the recoveries were, it is the same
+/// history. No recovery finds a log that can't be entered.
 pub fn crashes_leave_one_history()
     ensures { (d : Database) (line new : Line) (keeping : Keeping) (l : Logged)
         (kept : List ℕ) (f g : Files) → IsHistoryCrash d line new keeping l kept f g
@@ -68,7 +68,7 @@ pub fn crashes_leave_one_history()
     rc_dbtext::laws::spelling_is_unique();
     rc_livetext::form_laws::text_is_unique();
     rc_livetext::laws::spelling_is_unique();
-    rc_livetext::laws::lines_are_texts();
+    rc_script::laws::lines_say_one_thing();
     empty_logs_are_at_rest();
     crashes_leave_one_line();
 }
@@ -94,10 +94,12 @@ pub fn found_ends_are_logged_beside_histories()
 /// there: database, live set and bundles.
 pub fn crashed_changes_are_taken_back()
     ensures { (d : Database) (line new : Line) (ask : Ask) (events : List Event)
-        (report : Reported) (keeping : Keeping) (bytes kept : List ℕ) (writes : List Write)
+        (report : Reported) (keeping : Keeping) (marked : Bool) (bytes kept : List ℕ)
+        (writes : List Write)
         (g : Files) (end : List ℕ) → StandsOn bytes d line → GoesOn false bytes false
         → Does d line (Change ask events) report new → IsOfRun keeping
-        → IsKept keeping bytes (spelling d new) kept → WritesChange d line ask kept writes
+        → IsKept keeping bytes (spelling d new) kept
+        → WritesChange marked d line ask kept writes
         → AfterCrash writes (record { file = bytes; log = [] }) g → EndsWithHistory g end
         → IsTakenBack bytes (place_in d line.current) end }
 {
@@ -106,6 +108,7 @@ pub fn crashed_changes_are_taken_back()
     rc_livetext::form_laws::text_is_unique();
     rc_livetext::laws::spelling_is_unique();
     rc_livetext::laws::lines_are_texts();
+    rc_script::laws::lines_say_one_thing();
     empty_logs_are_at_rest();
     crashes_leave_one_line();
 }
@@ -127,6 +130,7 @@ pub fn crashed_updates_are_taken_back()
     rc_livetext::form_laws::text_is_unique();
     rc_livetext::laws::spelling_is_unique();
     rc_livetext::laws::lines_are_texts();
+    rc_script::laws::lines_say_one_thing();
     empty_logs_are_at_rest();
     crashes_leave_one_line();
     updates_of_texts_are_updates();
@@ -147,7 +151,7 @@ pub fn crashed_ways_go_by_steps()
     rc_dbtext::laws::spelling_is_unique();
     rc_livetext::form_laws::text_is_unique();
     rc_livetext::laws::spelling_is_unique();
-    rc_livetext::laws::lines_are_texts();
+    rc_script::laws::lines_say_one_thing();
     empty_logs_are_at_rest();
     crashes_leave_one_line();
 }
@@ -156,10 +160,11 @@ pub fn crashed_ways_go_by_steps()
 /// any point. Its line has room for one state more. After any recoveries, the history is the one
 /// before, or one undo that goes well restores what stood there.
 pub fn crashed_redos_are_taken_back()
-    ensures { (d : Database) (line new : Line) (bytes kept : List ℕ) (writes : List Write)
-        (g : Files) (end : List ℕ) → StandsOn bytes d line → GoesOn false bytes false
-        → LineHasRoom line → MayDo d true line new → IsKept Way bytes (spelling d new) kept
-        → WritesRun true d line kept writes
+    ensures { (d : Database) (line new : Line) (keeping : Keeping) (marked : Bool)
+        (bytes kept : List ℕ) (writes : List Write) (g : Files) (end : List ℕ)
+        → StandsOn bytes d line → GoesOn false bytes false → LineHasRoom line
+        → MayDo d true line new → IsOfRun keeping → IsKept keeping bytes (spelling d new) kept
+        → WritesRun marked true d line kept writes
         → AfterCrash writes (record { file = bytes; log = [] }) g → EndsWithHistory g end
         → IsTakenBack bytes (place_in d line.current) end }
 {
@@ -168,6 +173,7 @@ pub fn crashed_redos_are_taken_back()
     rc_livetext::form_laws::text_is_unique();
     rc_livetext::laws::spelling_is_unique();
     rc_livetext::laws::lines_are_texts();
+    rc_script::laws::lines_say_one_thing();
     empty_logs_are_at_rest();
     crashes_leave_one_line();
 }
@@ -176,10 +182,11 @@ pub fn crashed_redos_are_taken_back()
 /// would not go on from the state before. After any recoveries, the history stands on that state,
 /// or one undo that goes well restores it: database, live set and bundles.
 pub fn crashed_undos_go_on()
-    ensures { (d : Database) (line back new : Line) (bytes kept : List ℕ)
-        (writes : List Write) (g : Files) (end : List ℕ) → StandsOn bytes d line
-        → IsNext back line → StopsBehind bytes → LineHasRoom line → MayDo d false line new
-        → IsKept Way bytes (spelling d new) kept → WritesRun false d line kept writes
+    ensures { (d : Database) (line back new : Line) (keeping : Keeping) (marked : Bool)
+        (bytes kept : List ℕ) (writes : List Write) (g : Files) (end : List ℕ)
+        → StandsOn bytes d line → IsNext back line → StopsBehind bytes → LineHasRoom line
+        → MayDo d false line new → IsOfRun keeping → IsKept keeping bytes (spelling d new) kept
+        → WritesRun marked false d line kept writes
         → AfterCrash writes (record { file = bytes; log = [] }) g → EndsWithHistory g end
         → StandsOnPlace end (place_in d back.current)
         ⊎ UndoRestores (place_in d back.current) end }
@@ -189,6 +196,7 @@ pub fn crashed_undos_go_on()
     rc_livetext::form_laws::text_is_unique();
     rc_livetext::laws::spelling_is_unique();
     rc_livetext::laws::lines_are_texts();
+    rc_script::laws::lines_say_one_thing();
     empty_logs_are_at_rest();
     crashes_leave_one_line();
 }

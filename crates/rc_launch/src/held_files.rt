@@ -1,12 +1,12 @@
 //! The two files of a session on a disk, as they were read while it was locked.
 ghost use Rattle.std.specs.Prelude.{◌≡◌, IfOk, IsSome, option_map, unwrap_or, []};
 ghost use Rattle.rc_launch.specs.Held.{IsUnwritten, WasLeft, files_held};
-ghost use Rattle.rc_launch.specs.Keeping.{KeepsAs, PassesIn, is_step, keeping_by};
+ghost use Rattle.rc_launch.specs.Keeping.{KeepsAs, keeping_by};
 ghost use Rattle.rc_launch.specs.Loading.{history_read};
 
 use crate::texts::ReadFiles;
-use rc_cli::logs_way;
-use rc_historytext::{HistoryFault, Keeping, keep_session, standing_of};
+use rc_cli::{logs_step, logs_way};
+use rc_historytext::{HistoryFault, Keeping, keep_session};
 use rc_recovery::{FileFault, TwoFiles};
 use rc_streams::replaced_file::replace;
 use rc_streams::run_file;
@@ -32,17 +32,6 @@ pub(crate) enum Begun {
     FailedEmpty,
 }
 
-/// What the command that finds a run log is to the command of the log.
-#[derive(Clone, Copy, PartialEq, Eq, Debug)]
-pub(crate) enum Finder {
-    /// The same command: the log is that of its first step.
-    GivenAgain,
-    /// Another one that takes back what was cut short before it begins.
-    TakesBack,
-    /// Any other one.
-    Other,
-}
-
 /// The file of a session and its run log, with what they hold since they were read, the writes
 /// that were begun and, after a call that failed, why. Contracts see what was read and written:
 /// nobody else writes them while they are locked.
@@ -62,28 +51,24 @@ pub struct HeldFiles<'a> {
 }
 
 impl<'a> HeldFiles<'a> {
-    /// Creates the held files from what was read of them while they were locked, for the command
-    /// that finds their log.
+    /// Creates the held files from what was read of them while they were locked.
     pub(crate) fn new(
         rt: &'a HostRuntime,
         read: &ReadFiles<'a>,
-        finder: Finder,
-    ) -> Result<HeldFiles<'a>, HistoryFault>
+    ) -> Result<HeldFiles<'a>, AllocError>
         ensures path { IfOk result (λ held. held.path ≡ read.now.logged.path) }
         ensures file { IfOk result (λ held. held.file.items
             ≡ unwrap_or (option_map (λ bytes. bytes.items) read.now.found) []) }
         ensures log { IfOk result (λ held. held.log.items ≡ read.now.logged.bytes.items) }
         ensures history { IfOk result (λ held.
             option_map (λ text. text.items) held.history ≡ history_read read.now) }
-        ensures keeping { IfOk result (λ held. KeepsAs finder (history_read read.now)
+        ensures keeping { IfOk result (λ held. KeepsAs
             (unwrap_or (option_map (λ bytes. bytes.items) read.now.found) [])
             read.now.logged.bytes.items held.keeping) }
         ensures unwritten { IfOk result IsUnwritten }
     {
-        let keeping = keeping_of(rt.alloc(), read, finder)?;
-        let Ok(history) = copy_of(rt.alloc(), read.history()) else {
-            return Err(HistoryFault::Memory);
-        };
+        let keeping = keeping_of(rt.alloc(), read)?;
+        let history = copy_of(rt.alloc(), read.history())?;
         match copies(rt.alloc(), read) {
             Ok((file, log)) => Ok(HeldFiles {
                 rt,
@@ -95,9 +80,9 @@ impl<'a> HeldFiles<'a> {
                 begun: Vec::new(rt.alloc()),
                 error: None,
             }),
-            Err(_) => {
+            Err(short) => {
                 drop(history);
-                Err(HistoryFault::Memory)
+                Err(short)
             }
         }
     }
@@ -138,49 +123,19 @@ fn copy_of(alloc: Global, text: Option<&[u8]>) -> Result<Option<Vec<u8>>, AllocE
 }
 
 // Returns the effect of the command of a log on the states of the session.
-fn keeping_of(alloc: Global, read: &ReadFiles<'_>, finder: Finder) -> Result<Keeping, HistoryFault>
-    ensures { IfOk result (KeepsAs finder (history_read read.now)
+fn keeping_of(alloc: Global, read: &ReadFiles<'_>) -> Result<Keeping, AllocError>
+    ensures { IfOk result (KeepsAs
         (unwrap_or (option_map (λ bytes. bytes.items) read.now.found) [])
         read.now.logged.bytes.items) }
 {
-    let (passed, last) = passes_in(alloc, read.history())?;
+    let step = logs_step(read.text(), read.log());
     match logs_way(alloc, read.text(), read.log()) {
-        Ok(way) => Ok(keeping_by(is_step(finder, way, passed, last), way)),
-        Err(_) => Err(HistoryFault::Memory),
+        Ok(way) => Ok(keeping_by(step, way)),
+        Err(short) => Err(short),
     }
 }
 
-// Returns whether an undo and a redo go on from the state on which a history stands, and whether
-// nothing comes after it.
-fn passes_in(alloc: Global, history: Option<&[u8]>) -> Result<(bool, bool), HistoryFault>
-    ensures { IfOk result (λ both. PassesIn (option_map (λ text. text.now) history.entry)
-        both.0 both.1) }
-{
-    match history {
-        Some(text) => {
-            let standing = standing_of(alloc, text)?;
-            Ok((
-                standing.is_passed(),
-                standing.after == 0 && standing.later == 0,
-            ))
-        }
-        None => Ok((false, false)),
-    }
-}
-
-// Returns true if the command of a log was a step of a command of several.
-fn is_step(finder: Finder, way: bool, passed: bool, last: bool) -> bool
-    ensures { result ≡ is_step finder way passed last }
-{
-    match finder {
-        Finder::GivenAgain => true,
-        Finder::TakesBack => passed,
-        Finder::Other => passed && (!way || last),
-    }
-}
-
-// Returns its effect. An undo or a redo that is no step drops no state, even if it goes on from a
-// state that is passed.
+// Returns its effect. A step that is marked is kept as one, even if it is an undo.
 fn keeping_by(step: bool, way: bool) -> Keeping
     ensures { result ≡ keeping_by step way }
 {

@@ -1,24 +1,20 @@
 //! Enters what a command that was cut short has moved.
-ghost use Rattle.std.specs.Prelude.{◌≡◌, ◌↔◌, IfOk, IsTrue};
+ghost use Rattle.std.specs.Prelude.{◌≡◌, IfOk};
 ghost use Rattle.rc_launch.specs.Beside.{IsEnteredFirst, IsLogOf, IsLookedAt, IsSeen};
-ghost use Rattle.rc_launch.specs.Recovered.{ComesBy, ComesFor, IsCut, IsFirstStep, IsRecovered};
-ghost use Rattle.rc_launch.specs.Keeping.{finder_by};
-ghost use Rattle.rc_launch.specs.Recovered.{IsHeldFor, files_read};
+ghost use Rattle.rc_launch.specs.Recovered.{ComesBy, ComesFor, IsCut, IsRecovered, files_read};
 ghost use Rattle.rc_launch.specs.Held.{IsUnwritten, files_held};
 
 use crate::asking::ask_first;
 use crate::fault::OpenFault;
 use crate::fronts::is_of;
-use crate::held_files::{Finder, HeldFiles};
-use crate::loading::{Loaded, bytes_of};
+use crate::held_files::HeldFiles;
+use crate::loading::Loaded;
 use crate::opened::{Note, SeenLog};
 use crate::recovered::{Came, Recovery};
 use crate::recovering::{Unrecovered, recover_by};
 use crate::texts::{LiveText, LogText, ReadFiles};
 use rc_args::SessionCommand;
-use rc_cli::{begins_restart, begins_update, remember};
-use rc_historytext::HistoryFault;
-use rc_names::NoMem;
+use rc_cli::remember;
 use rc_recovery::TwoFiles;
 use rc_streams::{live_lock, run_file, stop_file};
 use std::io::ErrorKind;
@@ -130,13 +126,9 @@ fn recover_read<'a>(
 ) -> Result<Recovery<'a>, OpenFault<'a>>
     ensures { IfOk result (IsRecovered loaded.now read.entry.logged.path) }
 {
-    let mut held = match held_for(rt, loaded, &read) {
-        Ok(held) => held,
-        Err(fault) => {
-            let path = read.path();
-            drop(read);
-            return Err(history_fault(path, fault));
-        }
+    let Ok(mut held) = HeldFiles::new(rt, &read) else {
+        drop(read);
+        return Err(OpenFault::Memory);
     };
     if read.is_cut() {
         return recover_cut(rt, loaded, read, held);
@@ -144,63 +136,6 @@ fn recover_read<'a>(
     match held.empty_log() {
         Ok(()) => Ok(Recovery::Made(read, held, Came::Stale)),
         Err(_) => Err(log_fault(read, held)),
-    }
-}
-
-// Creates the held files for a recovery, with what the command of the log does to the states of the
-// session.
-fn held_for<'a>(
-    rt: &'a HostRuntime,
-    loaded: &Loaded<'_>,
-    read: &ReadFiles<'a>,
-) -> Result<HeldFiles<'a>, HistoryFault>
-    ensures held { IfOk result (λ held. files_held held ≡ files_read read.now) }
-    ensures keeping { IfOk result (λ held. IsHeldFor loaded.now read.now held) }
-    ensures unwritten { IfOk result IsUnwritten }
-{
-    match is_first_step(rt, loaded, read) {
-        Ok(is_first) => HeldFiles::new(rt, read, finder_by(is_first, &loaded.command)),
-        Err(_) => Err(HistoryFault::Memory),
-    }
-}
-
-// Returns what a command is to that of a log, of its own first step or not.
-fn finder_by(is_first: bool, command: &SessionCommand<'_>) -> Finder
-    ensures { result ≡ finder_by is_first command.now }
-{
-    if is_first {
-        return Finder::GivenAgain;
-    }
-    match command {
-        SessionCommand::Update(_) | SessionCommand::Restart(_) => Finder::TakesBack,
-        SessionCommand::Check(request) if request.repairs => Finder::TakesBack,
-        _ => Finder::Other,
-    }
-}
-
-// Returns why the text of a history is refused.
-fn history_fault(path: &str, fault: HistoryFault) -> OpenFault<'_> {
-    match fault {
-        HistoryFault::Memory => OpenFault::Memory,
-        fault => OpenFault::History(path, fault),
-    }
-}
-
-// Returns true if a log is that of the first step of the requested update.
-fn is_first_step(rt: &HostRuntime, loaded: &Loaded<'_>, read: &ReadFiles<'_>) -> Result<bool, NoMem>
-    ensures { IfOk result (λ is. IsTrue is ↔ IsFirstStep loaded.now read.now) }
-{
-    match &loaded.command {
-        SessionCommand::Update(request) => {
-            let (old, new) = (bytes_of(&loaded.base), bytes_of(&loaded.new));
-            let list = request.conversions.as_slice();
-            begins_update(rt.alloc(), old, new, list, read.text(), read.log())
-        }
-        SessionCommand::Restart(request) => {
-            let names = request.names.as_slice();
-            begins_restart(rt.alloc(), names, read.text(), read.log())
-        }
-        _ => Ok(false),
     }
 }
 

@@ -11,7 +11,7 @@ ghost use Rattle.rc_cli.specs.Straying.{LowersStrays};
 ghost use Rattle.rc_cli.specs.UpdateEnds.{Leads};
 ghost use Rattle.log.specs.Handle.{max_level};
 ghost use Rattle.rc_launch.specs.Serving.{Carries, IsLogFor, IsReadAs};
-ghost use Rattle.rc_launch.specs.Serving.{logged_of};
+ghost use Rattle.rc_launch.specs.Serving.{is_restart, logged_of, takes_steps};
 ghost use Rattle.rc_launch.specs.Loading.{bytes_in, bytes_of, session_in};
 ghost use Rattle.rc_cli.specs.declared.sessions.keeping.LiveFile.{LiveFile};
 
@@ -67,7 +67,8 @@ pub fn serve<'x, T: Threads + Wait + Sync, R: Read, W: Write, F: Write, S: Store
         (F.contents devices.old.faults) (F.contents devices.new.faults) }
 {
     let log = log_of(&*rt, opened);
-    let host = host_of(&*rt, &*threads, &log, &*opened);
+    let is_step = takes_steps(&opened.loaded.command);
+    let host = host_of(&*rt, &*threads, &log, &*opened, is_step);
     let live = read_of(opened);
     let Loaded {
         command,
@@ -138,7 +139,7 @@ pub(crate) fn serve_on<'x, T: Threads + Wait + Sync, R: Read, W: Write, F: Write
 {
     let opened = execution.opened;
     let log = log_of(execution.rt, opened);
-    let host = host_of(execution.rt, execution.threads, &log, opened);
+    let host = host_of(execution.rt, execution.threads, &log, opened, is_restart(service));
     launch(&host, opened.session(), service, Some(base), live, devices)
 }
 
@@ -157,7 +158,7 @@ pub(crate) fn serve_update<'x, T: Threads + Wait + Sync, R: Read, W: Write, F: W
 {
     let opened = execution.opened;
     let log = log_of(execution.rt, opened);
-    let host = host_of(execution.rt, execution.threads, &log, opened);
+    let host = host_of(execution.rt, execution.threads, &log, opened, true);
     let new = bytes_of(&opened.loaded.new);
     update_as_asked(&host, request, base, new, live, devices)
 }
@@ -203,15 +204,35 @@ fn log_of<'h>(
     log_for(rt, opened.session())
 }
 
-// Creates the host on which the command runs, with the files of its runs, if it has any.
+// Returns true if a command has several steps: the halves of an update, or the steps of a restart.
+fn takes_steps(command: &SessionCommand<'_>) -> bool
+    ensures { result ≡ takes_steps command.now }
+{
+    matches!(
+        command,
+        SessionCommand::Update(_) | SessionCommand::Restart(_)
+    )
+}
+
+// Returns true if a restart is served.
+fn is_restart(service: Service<'_>) -> bool
+    ensures { result ≡ is_restart service.entry }
+{
+    matches!(service, Service::Restart(_))
+}
+
+// Creates the host on which the command runs, with the files of its runs, if it has any, and with
+// whether they are steps of a command of several.
 fn host_of<'h, T, L>(
     rt: &'h HostRuntime,
     threads: &'h T,
     log: &'h L,
     opened: &'h Opened<'_>,
+    is_step: bool,
 ) -> Host<'h, T, L>
     ensures runs { option_map (λ files. files.now) result.run_files
         ≡ option_map (λ runs. runs.files) opened.now.runs }
+    ensures step { result.is_step ≡ is_step }
     ensures outputs { option_map (λ folder. folder.path) result.outputs
         ≡ (session_in opened.now.loaded).output }
 {
@@ -225,6 +246,7 @@ fn host_of<'h, T, L>(
         runtime: rt,
         log,
         run_files,
+        is_step,
         remembers,
         outputs: outputs_of(rt, opened),
         alloc: rt.alloc(),
@@ -247,6 +269,7 @@ fn host_apart<'h, T, L>(
         runtime: rt,
         log,
         run_files: None,
+        is_step: false,
         remembers: None,
         outputs: outputs_of(rt, opened),
         alloc: rt.alloc(),

@@ -1,8 +1,11 @@
 -- Bytes, lines and their fronts.
-use Rattle.std.proofs.Common.{◌≡◌, ◌≢◌, ◌∙◌, ◌⊎◌, inl, inr, ℕ, suc, Contains, List, [], ◌∷◌, ◌++◌}
-use Rattle.std.proofs.Common.{refl, ap, sym, subst, append_assoc, arith}
+use Rattle.std.proofs.Common.{◌≡◌, ◌≢◌, ◌∙◌, ◌⊎◌, ◌==◌, inl, inr, ℕ, suc, Bool, true, false}
+use Rattle.std.proofs.Common.{Contains, List, [], ◌∷◌, ◌++◌, if◌then◌else◌, refl, ap, sym, subst}
+use Rattle.std.proofs.Common.{append_assoc, arith}
 use Rattle.std.specs.List.{AllByRecursion, concat}
+use Rattle.std.proofs.lemmas.Bool.{cases_Bool, cond-true, cond-false, eq-eqb, true≢false}
 use Rattle.std.proofs.lemmas.List.{append-nil, append_cancel_left}
+use Rattle.std.proofs.lemmas.List.Elements.{All-contains, All-from_recursion}
 use Rattle.rc_recovery.specs.RunLog.{EndsWhole}
 use Rattle.rc_recovery.specs.Files.{IsFront}
 
@@ -37,6 +40,26 @@ one_longer (a ∷ u) (b ∷ v) x y e =
 -- bytes without a newline
 abbrev pub Bare : List ℕ → Type 0
 Bare bytes = AllByRecursion (λ byte. byte ≢ 10) bytes
+
+-- no newline stands in these bytes
+abbrev pub has_newline : List ℕ → Bool
+has_newline [] = false
+has_newline (x ∷ xs) = if x == 10 then true else has_newline xs
+
+pub no_newline : (bytes : List ℕ) → has_newline bytes ≡ false → Bare bytes
+no_newline [] none = tt
+no_newline (x ∷ xs) none = elim (cases_Bool (x == 10)) [
+  | inl is ↦ absurd (true≢false (sym (cond-true (x == 10) true (has_newline xs) is) ∙ none))
+  | inr other ↦ (
+    λ e. true≢false (sym (eq-eqb x 10 e) ∙ other),
+    no_newline xs (sym (cond-false (x == 10) true (has_newline xs) other) ∙ none),
+  )
+]
+
+pub whole : (bytes : List ℕ) → has_newline bytes ≡ false → Contains bytes 10 → ⊥
+whole bytes none at =
+    All-contains (λ byte. byte ≢ 10) bytes 10
+    (All-from_recursion (λ byte. byte ≢ 10) bytes (no_newline bytes none)) at refl
 
 pub bare_line : (line : List ℕ) → (Contains line 10 → ⊥) → Bare line
 bare_line [] none = tt

@@ -1,26 +1,53 @@
 -- What a crash of a command leaves.
 use Rattle.std.proofs.Common.{◌≡◌, ◌≢◌, ◌∙◌, ◌⊎◌, inl, inr, ℕ, List, [], ◌∷◌, ◌++◌, map, refl, ap}
-use Rattle.std.proofs.Common.{sym, subst, append_assoc}
+use Rattle.std.proofs.Common.{Bool, true, false, sym, subst, append_assoc, codes}
 use Rattle.std.specs.List.{AllZip, concat}
 use Rattle.std.proofs.lemmas.List.{append-nil, append_cancel_left}
 use Rattle.std.proofs.lemmas.List.Elements.{All-from_recursion, recursion_from_All}
 use Rattle.rc_model.specs.declared.Event.{Event}
 use Rattle.rc_model.specs.Database.{Database}
 use Rattle.rc_model.specs.Line.{Line}
-use Rattle.rc_model.specs.Session.{IsLineOf}
+use Rattle.rc_model.specs.Session.{Command, IsLineOf}
 use Rattle.rc_model.proofs.ByteOrder.{same_or_other}
 use Rattle.rc_livetext.specs.Spelling.{spelling}
-use Rattle.rc_script.specs.RunLines.{IsEventLine}
+use Rattle.rc_script.specs.RunLines.{IsEventLine, IsHead, mark_of}
 use Rattle.rc_recovery.specs.RunLog.{IsUnfit}
 use Rattle.rc_recovery.specs.Files.{AfterCrash, Append, Empty, Files, IsFront, Replace, Write}
 use Rattle.rc_recovery.specs.Logging.{HoldEvents, IsLogged, Logged, log_of}
 use Rattle.rc_recovery.specs.Recoveries.{AreCutRecoveries, EndsIn, EndsInOneLine, EndsOn, IsAtRest}
 use Rattle.rc_recovery.specs.Recoveries.{IsCrash}
-use Rattle.rc_recovery.proofs.Bytes.{Bare, bare_front, bare_line, concat_more, nothing}
-use Rattle.rc_recovery.proofs.Bytes.{one_longer, torn_line}
+use Rattle.rc_recovery.proofs.Bytes.{Bare, bare_front, bare_line, concat_more, no_newline}
+use Rattle.rc_recovery.proofs.Bytes.{nothing, one_longer, torn_line}
 use Rattle.rc_recovery.proofs.Held.{kept_ends, kept_fits, none_rests, one_end_text, other_rests}
 use Rattle.rc_recovery.proofs.Known.{Laws}
 use Rattle.rc_recovery.proofs.Resting.{all_still, bare_rests, empty_rests, ends_still, files}
+
+-- a front of a mark is all of it, or has no newline
+mark_front : (marked : Bool) (q r : List ℕ) → mark_of marked ≡ q ++ r
+    → (q ≡ mark_of marked) ⊎ Bare q
+mark_front false q r is = inr (subst Bare (sym (nothing q r (sym is)).0) tt)
+mark_front true q r is = torn_line (codes "# step") q (no_newline (codes "# step") refl) (r, is)
+
+-- a front of a head is all of it; or the line of its step, and a part of its mark; or no line
+head_front : (c : Command) (marked : Bool) (head : List ℕ) (is : IsHead c marked head)
+    (q r : List ℕ) → head ≡ q ++ r
+    → (q ≡ head) ⊎ ((p : List ℕ) × Bare p × (q ≡ is.0 ++ p)) ⊎ Bare q
+head_front c marked head (step, is, at) q r all =
+    elim (one_longer q step r (mark_of marked) (sym all ∙ at)) [
+      | inl (s, same) ↦
+          elim (torn_line is.0 q (bare_line is.0 is.1.1) (s, sym is.1.0 ∙ sym same)) [
+            | inl every ↦ inr (inl ([], tt, every ∙ sym is.1.0 ∙ sym (append-nil step)))
+            | inr bare ↦ inr (inr bare)
+          ]
+      | inr (s, same) ↦
+          let mark : mark_of marked ≡ s ++ r =
+          append_cancel_left step (mark_of marked) (s ++ r) (sym at ∙ all
+          ∙ ap (λ (x : List ℕ). x ++ r) (sym same) ∙ append_assoc step s r) in
+          elim (mark_front marked s r mark) [
+            | inl every ↦ inl (sym same ∙ ap (λ (x : List ℕ). step ++ x) every ∙ sym at)
+            | inr bare ↦ inr (inl (s, bare, sym same))
+          ]
+    ]
 
 module _ (laws : Laws) (d : Database) (line new : Line) (l : Logged) (f : Files)
     (logged : IsLogged d line l) (new_of : IsLineOf d new) (file : f.file ≡ spelling d line)
@@ -164,6 +191,38 @@ module _ (laws : Laws) (d : Database) (line new : Line) (l : Logged) (f : Files)
       (bare_rests laws.scripts d (spelling d line) (spelling d line ++ q)
       (λ rest is. subst Bare (append_cancel_left (spelling d line) q rest is) bare))
 
+  -- nor of one that has the line of its step, and at most a part of its mark
+  unmarked_rests : (g : Files) (p : List ℕ) → Bare p
+      → g ≡ files (spelling d line) (spelling d line ++ (logged.step_is.0 ++ p)) → IsAtRest d g
+  unmarked_rests g p bare at =
+      let text : List ℕ = spelling d line in
+      let step : List ℕ = logged.step_is.0 in
+      none_rests laws d line (record {
+        command = l.command;
+        marked = false;
+        step = step;
+        events = l.events;
+        lines = l.lines;
+        part = l.part;
+      }) (record {
+        database = logged.database;
+        line_of = logged.line_of;
+        begins = logged.begins;
+        step_is = (step, logged.step_is.1, sym (append-nil step));
+        lines_are = logged.lines_are;
+        torn = logged.torn;
+      }) g (record {
+        left = l.events;
+        lines = [];
+        part = p;
+        front = refl;
+        lines_are = tt;
+        torn = All-from_recursion (λ byte. byte ≢ 10) p bare;
+        files =
+            at ∙ ap (λ (x : List ℕ). files text (text ++ (x ++ p))) (sym (append-nil step))
+            ∙ ap (files text) (sym (append_assoc text (step ++ []) p));
+      })
+
   short_rests : (g : Files) (part q : List ℕ) → part ++ q ≡ spelling d line
       → g ≡ files (spelling d line) part → IsAtRest d g
   short_rests g part q is at = subst (IsAtRest d) (sym at)
@@ -201,12 +260,13 @@ module _ (laws : Laws) (d : Database) (line new : Line) (l : Logged) (f : Files)
             ∙ append_assoc text q is.0)
             in
             let there : g ≡ files text (text ++ q) = at ∙ ap (files text) (sym same) in
-            let step = logged.step_is in
-            elim (torn_line step.0 q (bare_line step.0 step.1.1) (is.0, sym step.1.0 ∙ all)) [
+            elim (head_front l.command l.marked l.step logged.step_is q is.0 all) [
               | inl every ↦ whole [] l.events [] g refl tt
                   (there ∙ ap (λ (x : List ℕ). files text (text ++ x))
-                  (every ∙ sym step.1.0 ∙ sym (append-nil l.step)))
-              | inr bare ↦ unlogged g part is at (begun_rests g q bare there)
+                  (every ∙ sym (append-nil l.step)))
+              | inr (inl (p, bare, torn)) ↦ unlogged g part is at (unmarked_rests g p bare
+                  (there ∙ ap (λ (x : List ℕ). files text (text ++ x)) torn))
+              | inr (inr bare) ↦ unlogged g part is at (begun_rests g q bare there)
             ]
         | inr (q, same) ↦ unlogged g part is at (short_rests g part q same at)
       ]

@@ -93,6 +93,7 @@ module _ (d : Database) (line new : Line) (l : Logged) (events : List Event) (w 
   abbrev one_more : Logged
   one_more = record {
     command = l.command;
+    marked = l.marked;
     step = l.step;
     events = the_events;
     lines = the_lines;

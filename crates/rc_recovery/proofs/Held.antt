@@ -86,7 +86,8 @@ module _ (laws : Laws) (d : Database) (line : Line) (l : Logged) (logged : IsLog
         ∙ append_assoc (spelling d line) (l.step ++ concat held.lines) held.part
 
     says : IsScript d.names (l.step ++ concat held.lines) (entered_command events ∷ [])
-    says = says_events d.names l.command l.step events held.lines run logged.step_is held.lines_are
+    says = says_events d.names l.command l.marked l.step events held.lines run logged.step_is
+        held.lines_are
 
     -- the script of the log is these lines
     script_is : (script : List ℕ) → HasScript g.file g.log script
@@ -98,7 +99,8 @@ module _ (laws : Laws) (d : Database) (line : Line) (l : Logged) (logged : IsLog
         (sym log_is ∙ at ∙ ap (λ (t : List ℕ). t ++ rest) same_file)
         in
         one_whole script are.part lines held.part (sym are.bytes_are ∙ sym behind) are.ends
-        (says_whole d.names l.command l.step events held.lines logged.step_is held.lines_are)
+        (says_whole d.names l.command l.marked l.step events held.lines logged.step_is
+        held.lines_are)
         (recursion_from_All (λ byte. byte ≢ 10) are.part are.torn)
         (recursion_from_All (λ byte. byte ≢ 10) held.part held.torn)
 

@@ -15,7 +15,7 @@ mod Unstopped
 -- What is said of the one command of a list holds of the list.
 mod Single
 -- Bytes, lines and their fronts.
-mod Bytes
+pub mod Bytes
 -- What the laws of the crates below say, for the proofs of this one.
 mod Known
 -- What the script of a run log says.

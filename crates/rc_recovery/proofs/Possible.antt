@@ -28,6 +28,7 @@ use Rattle.rc_script.specs.Says.{SaysWrong}
 use Rattle.rc_recovery.specs.Files.{Files}
 use Rattle.rc_recovery.specs.Logging.{BeginsRun, HoldEvents, IsLogged, Logged}
 use Rattle.rc_recovery.specs.Recoveries.{IsCrash}
+use Rattle.rc_recovery.proofs.Bytes.{whole}
 use Rattle.rc_recovery.proofs.Known.{Scripts}
 use Rattle.rc_recovery.proofs.Resting.{empty_rests, files}
 
@@ -250,26 +251,6 @@ begins = (
   unstopped,
 )
 
--- no newline stands in these bytes
-abbrev has_newline : List ℕ → Bool
-has_newline [] = false
-has_newline (x ∷ xs) = if x == 10 then true else has_newline xs
-
-no_newline : (bytes : List ℕ) → has_newline bytes ≡ false → AllByRecursion (λ byte. byte ≢ 10) bytes
-no_newline [] none = tt
-no_newline (x ∷ xs) none = elim (cases_Bool (x == 10)) [
-  | inl is ↦ absurd (true≢false (sym (cond-true (x == 10) true (has_newline xs) is) ∙ none))
-  | inr other ↦ (
-    λ e. true≢false (sym (eq-eqb x 10 e) ∙ other),
-    no_newline xs (sym (cond-false (x == 10) true (has_newline xs) other) ∙ none),
-  )
-]
-
-whole : (bytes : List ℕ) → has_newline bytes ≡ false → Contains bytes 10 → ⊥
-whole bytes none at =
-    All-contains (λ byte. byte ≢ 10) bytes 10
-    (All-from_recursion (λ byte. byte ≢ 10) bytes (no_newline bytes none)) at refl
-
 abbrev the_step : List ℕ
 the_step = codes "-t 1 undo" ++ 10 ∷ []
 
@@ -321,6 +302,7 @@ take_is = (
 abbrev pub the_command : Logged
 the_command = record {
   command = Undo 0 [];
+  marked = false;
   step = the_step;
   events = Take 1 0 ∷ [];
   lines = the_take ∷ [];
@@ -332,7 +314,7 @@ logged = record {
   database = is_database;
   line_of = lowered_of;
   begins = begins;
-  step_is = step_is;
+  step_is = (the_step, step_is, sym (append-nil the_step));
   lines_are = (take_is, tt);
   torn = All-nil (λ byte. byte ≢ 10);
 }

@@ -1,5 +1,6 @@
 -- What the script of a run log says.
-use Rattle.std.proofs.Common.{◌≡◌, ◌∙◌, ◌==◌, inl, inr, ℕ, false, All, List, [], ◌∷◌, ◌++◌, Some}
+use Rattle.std.proofs.Common.{◌≡◌, ◌∙◌, ◌==◌, inl, inr, ℕ, Bool, true, false, All, List, [], ◌∷◌}
+use Rattle.std.proofs.Common.{◌++◌, Some, codes}
 use Rattle.std.proofs.Common.{refl, ap, sym, subst, append_assoc}
 use Rattle.std.specs.List.{AllByRecursion, AllZip, concat}
 use Rattle.std.proofs.lemmas.Bool.{ne_eqb}
@@ -10,11 +11,12 @@ use Rattle.rc_model.specs.declared.Event.{Event}
 use Rattle.rc_model.specs.Headline.{HasRun}
 use Rattle.rc_model.specs.Session.{Command, Change, Undo, Redo, Add, Delete, events_of}
 use Rattle.rc_session.specs.Commands.{with_events}
-use Rattle.rc_script.specs.RunLines.{IsEventLine, IsLine, IsStepLine, least_limited}
+use Rattle.rc_script.specs.RunLines.{IsEventLine, IsHead, IsLine, IsStepLine, least_limited}
+use Rattle.rc_script.specs.RunLines.{mark_of, step_mark}
 use Rattle.rc_script.specs.Says.{SaysNothing, SaysStep}
 use Rattle.rc_script.specs.Script.{Happens, IsScript, Reads, Skipped, Starts, lines_in, with_item}
 use Rattle.rc_recovery.specs.RunLog.{EndsWhole}
-use Rattle.rc_recovery.proofs.Bytes.{Bare, bare_line}
+use Rattle.rc_recovery.proofs.Bytes.{Bare, bare_line, whole}
 
 no_newline : (line : List ℕ) → Bare line → AllByRecursion (λ byte. (byte == 10) ≡ false) line
 no_newline [] bare = tt
@@ -89,19 +91,38 @@ events_are (Redo limit old) events run = refl
 events_are (Add name contents force) events run = absurd run
 events_are (Delete words force) events run = absurd run
 
--- the line of a step and lines of events say the command with these events
-pub says_events : (names : List (List ℕ)) (c : Command) (step : List ℕ) (events : List Event)
-    (lines : List (List ℕ)) → HasRun c → IsStepLine c step → AllZip (IsEventLine names) events lines
+-- the mark is a comment
+mark_line : IsLine step_mark (codes "# step")
+mark_line = (refl, whole (codes "# step") refl)
+
+reads_mark : (names : List (List ℕ)) (marked : Bool) (lines : List ℕ) (old new : List Command)
+    → Reads names (lines_in lines) old new
+    → Reads names (lines_in (mark_of marked ++ lines)) old new
+reads_mark names false lines old new reads = reads
+reads_mark names true lines old new reads =
+    subst (λ (ls : List (List ℕ)). Reads names ls old new)
+    (sym (lines_first step_mark (codes "# step") lines mark_line))
+    (old, (Skipped, (SaysNothing, inl (refl, refl), refl), refl), reads)
+
+-- the line of a step, its mark and lines of events say the command with these events
+pub says_events : (names : List (List ℕ)) (c : Command) (marked : Bool) (step : List ℕ)
+    (events : List Event) (lines : List (List ℕ)) → HasRun c → IsHead c marked step
+    → AllZip (IsEventLine names) events lines
     → IsScript names (step ++ concat lines) (with_events (least_limited c) events ∷ [])
-says_events names c step events lines run is are =
+says_events names c marked step events lines run (line, is, head) are =
     let least : Command = least_limited c in
     let all : List Command = with_events least events ∷ [] in
+    let behind : List ℕ = mark_of marked ++ concat lines in
     subst (λ (ls : List (List ℕ)). Reads names ls [] all)
-    (sym (lines_first step is.0 (concat lines) is.1)) (
+    (sym (ap (λ (t : List ℕ). lines_in (t ++ concat lines)) head
+    ∙ ap lines_in (append_assoc line (mark_of marked) (concat lines))
+    ∙ lines_first line is.0 behind is.1)) (
       least ∷ [],
       (Starts least, (SaysStep least, is.2, refl), refl),
-      subst (λ (first : Command). Reads names (lines_in (concat lines)) (first ∷ []) all)
-          (no_events c run) (reads_events names least (least_has_run c run) events [] lines are),
+      reads_mark names marked (concat lines) (least ∷ []) all
+          (subst (λ (first : Command). Reads names (lines_in (concat lines)) (first ∷ []) all)
+          (no_events c run)
+          (reads_events names least (least_has_run c run) events [] lines are)),
     )
 
 pub ends_line : (x text line : List ℕ) → IsLine text line → EndsWhole (x ++ text)
@@ -117,9 +138,17 @@ ends_lines names x (e ∷ events) (t ∷ lines) are whole =
     subst EndsWhole (append_assoc x t (concat lines))
     (ends_lines names (x ++ t) events lines are.1 (ends_line x t are.0.0 are.0.1))
 
--- and are whole lines
-pub says_whole : (names : List (List ℕ)) (c : Command) (step : List ℕ) (events : List Event)
-    (lines : List (List ℕ)) → IsStepLine c step → AllZip (IsEventLine names) events lines
-    → EndsWhole (step ++ concat lines)
-says_whole names c step events lines is are =
-    ends_lines names step events lines are (ends_line [] step is.0 is.1)
+-- the line of a step and its mark are whole lines
+pub ends_head : (c : Command) (marked : Bool) (step : List ℕ) → IsHead c marked step
+    → EndsWhole step
+ends_head c false step (line, is, head) =
+    subst EndsWhole (sym (head ∙ append-nil line)) (ends_line [] line is.0 is.1)
+ends_head c true step (line, is, head) =
+    subst EndsWhole (sym head) (ends_line line step_mark (codes "# step") mark_line)
+
+-- and are whole lines with those of events
+pub says_whole : (names : List (List ℕ)) (c : Command) (marked : Bool) (step : List ℕ)
+    (events : List Event) (lines : List (List ℕ)) → IsHead c marked step
+    → AllZip (IsEventLine names) events lines → EndsWhole (step ++ concat lines)
+says_whole names c marked step events lines is are =
+    ends_lines names step events lines are (ends_head c marked step is)

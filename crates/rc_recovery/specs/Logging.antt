@@ -1,5 +1,5 @@
 -- What a command logs and writes, and the files that hold its log.
-use Rattle.std.specs.Prelude.{◌≡◌, ◌≢◌, ◌++◌, ◌∷◌, [], ℕ, List, Option, All, map}
+use Rattle.std.specs.Prelude.{◌≡◌, ◌≢◌, ◌++◌, ◌∷◌, [], ℕ, Bool, List, Option, All, map}
 use Rattle.std.specs.List.{AllZip, concat}
 use Rattle.rc_model.specs.declared.Event.{Event}
 use Rattle.rc_model.specs.Database.{Database, IsDatabase}
@@ -8,7 +8,7 @@ use Rattle.rc_model.specs.Plan.{PlanSets}
 use Rattle.rc_model.specs.Run.{IsRun, IsStopped, course_of}
 use Rattle.rc_model.specs.Session.{Command, IsLineOf, IsTask}
 use Rattle.rc_livetext.specs.Spelling.{spelling}
-use Rattle.rc_script.specs.RunLines.{IsEventLine, IsStepLine}
+use Rattle.rc_script.specs.RunLines.{IsEventLine, IsHead}
 use Rattle.rc_recovery.specs.Files.{Append, Empty, Files, Replace, Write}
 
 -- the events are the beginning of a run of the command from where the line stands; that a run is
@@ -19,10 +19,12 @@ BeginsRun d line command events =
     × IsTask d line command start plan deadline
     × IsRun (course_of d.needs plan deadline) events × (IsStopped events → ⊥)
 
--- what a command logs: the line of its step, its events in the order of the log, and their lines;
--- and a part of the next line, where an append failed, as on a full disk: nothing is logged then
+-- what a command logs: the line of its step, with its mark if it is marked as one of several steps;
+-- its events in the order of the log, and their lines; and a part of the next line, where an append
+-- failed, as on a full disk: nothing is logged then
 pub record Logged : Type 0 where
   pub command : Command
+  pub marked : Bool
   pub step : List ℕ
   pub events : List Event
   pub lines : List (List ℕ)
@@ -33,11 +35,11 @@ pub record IsLogged (d : Database) (line : Line) (l : Logged) : Type 0 where
   pub database : IsDatabase d
   pub line_of : IsLineOf d line
   pub begins : BeginsRun d line l.command l.events
-  pub step_is : IsStepLine l.command l.step
+  pub step_is : IsHead l.command l.marked l.step
   pub lines_are : AllZip (IsEventLine d.names) l.events l.lines
   pub torn : All (λ byte. byte ≢ 10) l.part
 
--- a log: the text of the file, the line of a step, and lines of events
+-- a log: the text of the file, the head of a step, and lines of events
 abbrev pub log_of : (text step : List ℕ) → (lines : List (List ℕ)) → List ℕ
 log_of text step lines = text ++ (step ++ concat lines)
 

@@ -36,18 +36,26 @@ scripts_of d runner controller limit = record {
 
 -- a gate that starts programs: what it is to run, whether what they write is shown, the directory
 -- in which it is kept, and the files in which its runs are logged and by which they are called off,
--- if there are any
+-- if there are any; and whether its runs are logged as those of a command of several steps
 pub record Starting : Type 0 where
   pub scripts : Scripts
   pub shows : Bool
   pub outputs : Option OutputFolder
   pub log : Option RunFile
+  pub steps : Option Bool
   pub stop : Option StopFile
 
 -- one that shows, keeps and logs nothing, and that nothing calls off
 abbrev pub quiet : Scripts → Starting
 quiet scripts =
-    record { scripts = scripts; shows = false; outputs = None; log = None; stop = None }
+    record {
+      scripts = scripts;
+      shows = false;
+      outputs = None;
+      log = None;
+      steps = None;
+      stop = None;
+    }
 
 -- a limit of one's own, or the usual one where that is 0
 abbrev pub limit_or : (own usual : ℕ) → ℕ

@@ -85,6 +85,7 @@ impl<'a, R, L> Model for ShellGate<'a, R, L> {
       shows = is_some g.errors;
       outputs = g.outputs;
       log = option_map (λ run_log. run_log.file.now) g.run_log;
+      steps = option_map (λ run_log. run_log.is_step) g.run_log;
       stop = option_map (λ file. file.now) g.stop_file;
     } };
 }
@@ -181,6 +182,7 @@ impl<'a, R: Processes + Clock + Files, L: Log> ShellGate<'a, R, L> {
           shows = true;
           outputs = self.entry.outputs;
           log = self.entry.log;
+          steps = self.entry.steps;
           stop = self.entry.stop;
         } }
     {
@@ -195,6 +197,7 @@ impl<'a, R: Processes + Clock + Files, L: Log> ShellGate<'a, R, L> {
           shows = self.entry.shows;
           outputs = Some outputs.entry;
           log = self.entry.log;
+          steps = self.entry.steps;
           stop = self.entry.stop;
         } }
     {
@@ -204,17 +207,24 @@ impl<'a, R: Processes + Clock + Files, L: Log> ShellGate<'a, R, L> {
 
     /// Returns this gate with a run log in the given file. The gate logs each event of a run of the
     /// database: a take before its program is started, and an end before it counts. A program whose
-    /// take cannot be logged is not started.
-    pub fn with_run_log(mut self, file: &'a RunFile, db: &Db) -> Result<ShellGate<'a, R, L>, NoMem>
+    /// take cannot be logged is not started. `is_step` says whether the runs are those of a command
+    /// of several steps, which the log then says too.
+    pub fn with_run_log(
+        mut self,
+        file: &'a RunFile,
+        db: &Db,
+        is_step: bool,
+    ) -> Result<ShellGate<'a, R, L>, NoMem>
         ensures { IfOk result (λ gate. gate ≡ record {
           scripts = self.entry.scripts;
           shows = self.entry.shows;
           outputs = self.entry.outputs;
           log = Some file.now;
+          steps = Some is_step;
           stop = self.entry.stop;
         }) }
     {
-        match RunLog::new(self.alloc, file, db) {
+        match RunLog::new(self.alloc, file, db, is_step) {
             Ok(run_log) => {
                 self.run_log = Some(run_log);
                 Ok(self)
@@ -234,6 +244,7 @@ impl<'a, R: Processes + Clock + Files, L: Log> ShellGate<'a, R, L> {
           shows = self.entry.shows;
           outputs = self.entry.outputs;
           log = self.entry.log;
+          steps = self.entry.steps;
           stop = Some file.now;
         } }
     {

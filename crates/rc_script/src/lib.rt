@@ -17,7 +17,7 @@ mod words;
 
 pub use crate::line::{SessionLine, read_line};
 pub use crate::processes::{Process, named_process, process_line};
-pub use crate::run_lines::{event_line, step_line};
+pub use crate::run_lines::{STEP_MARK, event_line, head_line, step_line};
 pub use crate::script::{ScriptFault, read_script};
 pub use crate::words::{is_digits, texts_of, words_of};
 pub use rc_names::NoMem;

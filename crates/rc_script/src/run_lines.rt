@@ -3,7 +3,7 @@
 ghost use Rattle.std.specs.Prelude.{◌≡◌, ◌++◌, ◌∷◌, [], IfOk, IfSome, IsTrue, Contains};
 ghost use Rattle.std.specs.Prelude.{string_bytes};
 ghost use Rattle.rc_session.specs.Commands.{plain_of};
-ghost use Rattle.rc_script.specs.RunLines.{IsEventLine, IsStepLine, least_limited};
+ghost use Rattle.rc_script.specs.RunLines.{IsEventLine, IsHead, IsStepLine, least_limited};
 ghost use Rattle.rc_script.specs.Says.{Says, SaysStep};
 ghost use Rattle.rc_script.specs.Script.{Happens, IsItem};
 
@@ -14,6 +14,25 @@ use rc_names::{Names, NoMem};
 use rc_select::Request;
 use rc_session::Command;
 use std::alloc::Global;
+
+/// The comment line behind the step of a command that keeps its states as steps: both halves of an
+/// update, and both steps of a restart.
+pub const STEP_MARK: &str = "# step\n";
+
+/// Returns the line of a command in a log, and behind it the mark if the command keeps its states
+/// as steps. Returns `None` if the command is an edit, or has a word that no line can have.
+pub fn head_line(alloc: Global, command: &Command, is_step: bool) -> Result<Option<String>, NoMem>
+    ensures { IfOk result (λ line. IfSome line (λ text.
+        IsHead (plain_of command.now) is_step (string_bytes text))) }
+{
+    let Some(mut head) = step_line(alloc, command)? else {
+        return Ok(None);
+    };
+    if is_step {
+        head.push_str(STEP_MARK)?;
+    }
+    Ok(Some(head))
+}
 
 /// Returns a command as a session line, with the least limit that there is and a newline at its
 /// end. Returns `None` if the command is an edit, or has a word that no line can have.

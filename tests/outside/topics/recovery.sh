@@ -287,12 +287,14 @@ expect 0 'live a b\nok\n' "$told" 'live\n' session -b next -l live -x none
 # An update that is given again enters it, takes it back, and carries over.
 half next base
 expect 0 'lowered a slow\nok\nraised a slow\nok\n' 'undorc: Recovered\n' '' update -b next -B base -l live
-# So what its first half has lowered comes up, too, where the update is the very next command.
+# So what its first half has lowered comes up, too, also if another command comes between them.
 half next base top
 expect 0 'raised top\nok\nlowered a slow top\nok\nraised a slow top\nok\n' 'undorc: Recovered\n' '' update -b next -B base -l live
 half next base top
-expect 0 'ok\n' 'undorc: Recovered\n' '' change -b next -l live
-expect 0 'lowered a slow\nok\nraised a slow\nok\n' '' '' update -b next -B base -l live
+expect 0 'ok\n' "$told" '' change -b next -l live
+expect 0 'raised top\nok\nlowered a slow top\nok\nraised a slow top\nok\n' '' '' update -b next -B base -l live
+half next base top
+expect 0 'raised top\nok\n' 'undorc: Recovered\n' '' undo -b next -l live
 # Where it has lowered nothing, what an earlier change lowered stays down.
 rm -f live ran begun
 : > go
@@ -300,7 +302,7 @@ rm -f live ran begun
 "$program" change -d top -b next -l live < /dev/null > /dev/null
 killed_update next base
 expect 0 'lowered a slow\nok\nraised a slow\nok\n' 'undorc: Recovered\n' '' update -b next -B base -l live
-# Where it renames or restarts services, the same command does so, and one without that is another update.
+# It renames or restarts services again if it is given so again. Another update takes it back, too.
 mv tree/top tree/tip
 rm -r tree/a
 oneshot a 'echo up a >> ran'
@@ -316,11 +318,11 @@ cut_short() {
 cut_short next named -f renames
 expect 0 'raised top\nok\nlowered a slow top\nok\nraised a slow tip\nok\n' 'undorc: Recovered\n' '' update -b next -B named -l live -f renames
 cut_short next named -f renames
-expect 0 'lowered a slow\nok\nraised a slow\nok\n' 'undorc: Recovered\n' '' update -b next -B named -l live
+expect 0 'raised top\nok\nlowered a slow top\nok\nraised a slow\nok\n' 'undorc: Recovered\n' '' update -b next -B named -l live
 cut_short next next -R slow
 expect 0 'raised top\nok\nlowered slow top\nok\nraised slow top\nok\n' 'undorc: Recovered\n' '' update -b next -B next -l live -R slow
 cut_short next next -R slow
-expect 0 'ok\nok\n' 'undorc: Recovered\n' '' update -b next -B next -l live
+expect 0 'raised top\nok\nok\nok\n' 'undorc: Recovered\n' '' update -b next -B next -l live
 half base next
 "$program" update -b base -B next -l live < /dev/null > said 2> told || true
 grep -cx 'undorc: Recovered' told > out

@@ -27,7 +27,7 @@ pub fn gate_for<'h, 'a, T, L: Log + Sync>(
     ensures made { IfOk result (λ gate. IsGateFor db.now (making_ask_of making.now) gate) }
     ensures files { IfOk result
         (IsOnFiles verbosity host.now.outputs
-        (option_map (λ files. files.now) host.now.run_files)) }
+        (option_map (λ files. files.now) host.now.run_files) host.now.is_step) }
     ensures fault { IfErr result (IsGateless db.now (making_ask_of making.now)) }
 {
     let gate = match quiet_gate(host, db, making, verbosity) {
@@ -52,7 +52,7 @@ fn quiet_gate<'h, 'a, T, L: Log + Sync>(
     ensures made { IfOk result (λ gate. IsGateFor db.now (making_ask_of making.now) gate) }
     ensures files { IfOk result
         (IsOnFiles verbosity host.now.outputs
-        (option_map (λ files. files.now) host.now.run_files)) }
+        (option_map (λ files. files.now) host.now.run_files) host.now.is_step) }
     ensures fault { IfErr result (IsGateless db.now (making_ask_of making.now)) }
 {
     match making {
@@ -69,7 +69,7 @@ fn quiet_gate<'h, 'a, T, L: Log + Sync>(
 
 // Creates the gate that runs the given programs. If each transition is reported, what the programs
 // write is shown, and kept if there is a directory for it. If there is a file for it, what is done
-// is logged.
+// is logged, as a step if the host says so.
 fn shell_gate<'h, T, L: Log + Sync>(
     host: &Host<'h, T, L>,
     db: &Db,
@@ -84,6 +84,8 @@ fn shell_gate<'h, T, L: Log + Sync>(
     ensures outputs { IfOk result (λ gate. gate.outputs ≡ host.now.outputs) }
     ensures log { IfOk result (λ gate. gate.log
         ≡ option_map (λ files. files.now.log) host.now.run_files) }
+    ensures steps { IfOk result (λ gate. gate.steps
+        ≡ option_map (λ files. host.now.is_step) host.now.run_files) }
     ensures stop { IfOk result (λ gate. gate.stop
         ≡ option_map (λ files. files.now.stop) host.now.run_files) }
 {
@@ -103,7 +105,7 @@ fn shell_gate<'h, T, L: Log + Sync>(
     match host.run_files {
         Some(files) => gate
             .with_stop_file(&files.stop)
-            .with_run_log(&files.log, db),
+            .with_run_log(&files.log, db, host.is_step),
         None => Ok(gate),
     }
 }

@@ -5,15 +5,16 @@ use rc_streams::stop_file::{self, StopFile};
 use std::alloc::Global;
 
 /// What a session runs on: the threads of its workers, the runtime that starts programs, the log
-/// that takes messages, the files of its runs, if it has any, the path of the file whose failures
-/// are remembered, if there is one, the directory that keeps what programs write, if there is one,
-/// and memory.
+/// that takes messages, the files of its runs, if it has any, whether these are steps of a command
+/// of several, the path of the file whose failures are remembered, if there is one, the directory
+/// that keeps what programs write, if there is one, and memory.
 #[derive(Drop)]
 pub struct Host<'h, T, L> {
     pub threads: &'h T,
     pub runtime: &'h HostRuntime,
     pub log: &'h L,
     pub run_files: Option<&'h RunFiles>,
+    pub is_step: bool,
     pub remembers: Option<&'h str>,
     pub outputs: Option<OutputFolder<'h>>,
     pub alloc: Global,

@@ -7,13 +7,11 @@ use rc_args::{
     Defaults, Invocation, Making, SessionCommand, WordsFault, invocation_of, renames_in,
     transitions_of,
 };
-use rc_cli::{begins_update, db_run, plan_run, replay_run};
-use rc_db::Db;
+use rc_cli::{db_run, plan_run, replay_run};
 use rc_dbtext::write_db;
 use rc_graph::Way;
 use rc_set::NoMem;
 use rc_streams::Noted;
-use rc_update::Conversion;
 use std::alloc::{AllocError, AllocGlobal, Global};
 use std::io::{Print, Write};
 use std::test::Fail;
@@ -142,21 +140,6 @@ pub(crate) fn are_words(words: &[String], due: &[&str]) -> bool {
         }
     }
     words.len() == due.len()
-}
-
-/// Returns true if a log is that of an update that restarts a service: its first step lowers the
-/// service.
-pub(crate) fn begins(rt: &(impl Print + AllocGlobal), db: &Db, live: &[u8]) -> Result<bool, NoMem> {
-    let base = write_db(rt.alloc(), db)?;
-    let mut log = Vec::from_slice(rt.alloc(), live)?;
-    log.extend_from_slice(b"-t 1 -D change net\n")?;
-    let restarts = [Conversion {
-        old: b"net",
-        new: b"net",
-        restart: true,
-    }];
-    go_on_to(rt, "begins_update");
-    begins_update(rt.alloc(), &base, &base, &restarts, live, &log)
 }
 
 /// Returns true if a list of transitions that fail has the two that its text names.

@@ -2,7 +2,6 @@
 
 ghost use Rattle.std.specs.Prelude.{◌≡◌, false};
 
-use crate::growths::asked::begins;
 use crate::growths::begun::{abandoned, all_moved, is_stopped, recovered};
 use crate::growths::lines::{is_of_states, is_stepped_on};
 use crate::growths::made::is_made;
@@ -41,7 +40,7 @@ pub(crate) fn made<R: Print + AllocGlobal + Threads + Wait + Clock + Sync>(
         How::Workers(workers) => by_workers(rt, session, workers, steps.first()),
         How::Within => within(rt, session, steps.first()),
         How::Serve(serving) => served(rt, session, serving),
-        How::Of(_) | How::Text(..) | How::Stop | How::States | How::StepOn | How::Begins => {
+        How::Of(_) | How::Text(..) | How::Stop | How::States | How::StepOn => {
             came_of(is_right(host, session, how, text))
         }
         How::Make(_) | How::Memory | How::Folder | How::Lock => {
@@ -71,7 +70,6 @@ fn is_right(
         How::Text(text, due) => is_text(rt.alloc(), session, text, due),
         How::Stop => is_stopped(rt, session.db().graph()),
         How::States => is_of_states(rt, session.db().table(), session.table()),
-        How::Begins => begins(rt, session.db(), text),
         _ => is_stepped_on(rt, session.journal(), session.table()),
     }
 }

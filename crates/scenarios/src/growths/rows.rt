@@ -5,102 +5,27 @@ use crate::growths::made::Made;
 use crate::growths::openings::Opening as OpenTo;
 use crate::growths::own::Given;
 use crate::growths::pushed::Pushed;
-use crate::growths::queries::Query::AllDependencies;
-use crate::growths::queries::Query::Atomics;
-use crate::growths::queries::Query::Contents;
-use crate::growths::queries::Query::Dependencies;
-use crate::growths::queries::Query::List;
-use crate::growths::queries::Query::Pipeline;
-use crate::growths::queries::Query::Script;
-use crate::growths::queries::Query::Selected;
-use crate::growths::queries::Query::ServiceCopy;
-use crate::growths::queries::Query::ServiceScript;
-use crate::growths::queries::Query::{self};
+use crate::growths::queries::Query::{
+    self, AllDependencies, Atomics, Contents, Dependencies, List, Pipeline, Script, Selected,
+    ServiceCopy, ServiceScript,
+};
 use crate::growths::recovering::Recovering;
-use crate::growths::rows::How::Abandon;
-use crate::growths::rows::How::Alter;
-use crate::growths::rows::How::Ask;
-use crate::growths::rows::How::Asked;
-use crate::growths::rows::How::Begins;
-use crate::growths::rows::How::By;
-use crate::growths::rows::How::Command;
-use crate::growths::rows::How::Compile;
-use crate::growths::rows::How::Complete;
-use crate::growths::rows::How::Dry;
-use crate::growths::rows::How::Edit;
-use crate::growths::rows::How::Folder;
-use crate::growths::rows::How::Lock;
-use crate::growths::rows::How::Make;
-use crate::growths::rows::How::Memory;
-use crate::growths::rows::How::Of;
-use crate::growths::rows::How::Opening;
-use crate::growths::rows::How::Own;
-use crate::growths::rows::How::Plan;
-use crate::growths::rows::How::Play;
-use crate::growths::rows::How::Push;
-use crate::growths::rows::How::Recover;
-use crate::growths::rows::How::Recovered;
-use crate::growths::rows::How::Resume;
-use crate::growths::rows::How::Serve;
-use crate::growths::rows::How::Session;
-use crate::growths::rows::How::Shell;
-use crate::growths::rows::How::Spoil;
-use crate::growths::rows::How::States;
-use crate::growths::rows::How::StepOn;
-use crate::growths::rows::How::Stop;
-use crate::growths::rows::How::Table;
-use crate::growths::rows::How::Tell;
-use crate::growths::rows::How::Text;
-use crate::growths::rows::How::Within;
-use crate::growths::rows::How::Workers;
+use crate::growths::rows::How::{
+    Abandon, Alter, Ask, Asked, By, Command, Compile, Complete, Dry, Edit, Folder, Lock, Make,
+    Memory, Of, Opening, Own, Plan, Play, Push, Recover, Recovered, Resume, Serve, Session, Shell,
+    Spoil, States, StepOn, Stop, Table, Tell, Text, Within, Workers,
+};
 use crate::growths::serving::Serving;
-use crate::growths::texts::Text::AddRefusal;
-use crate::growths::texts::Text::Answer;
-use crate::growths::texts::Text::Bundles;
-use crate::growths::texts::Text::Dot;
-use crate::growths::texts::Text::EventLine;
-use crate::growths::texts::Text::Ids;
-use crate::growths::texts::Text::Journal;
-use crate::growths::texts::Text::Letters;
-use crate::growths::texts::Text::Live;
-use crate::growths::texts::Text::LiveWord;
-use crate::growths::texts::Text::ReadLine;
-use crate::growths::texts::Text::ReadScript;
-use crate::growths::texts::Text::Refusal;
-use crate::growths::texts::Text::Report;
-use crate::growths::texts::Text::StepLine;
-use crate::growths::texts::Text::StepRefusal;
-use crate::growths::texts::Text::TextWord;
-use crate::growths::texts::Text::UnknownWord;
-use crate::growths::texts::Text::{self as Texts};
+use crate::growths::texts::Text::{
+    self as Texts, AddRefusal, Answer, Bundles, Dot, EventLine, Ids, Journal, Letters, Live,
+    LiveWord, ReadLine, ReadScript, Refusal, Report, StepLine, StepRefusal, TextWord, UnknownWord,
+};
 use crate::growths::trees::Altering;
-use crate::growths::values::Value::Carry;
-use crate::growths::values::Value::Difference;
-use crate::growths::values::Value::DownOf;
-use crate::growths::values::Value::EditBetween;
-use crate::growths::values::Value::EditCopy;
-use crate::growths::values::Value::GraphShare;
-use crate::growths::values::Value::LineCopy;
-use crate::growths::values::Value::LineState;
-use crate::growths::values::Value::LiveForm;
-use crate::growths::values::Value::NameCopy;
-use crate::growths::values::Value::NameOf;
-use crate::growths::values::Value::NameRead;
-use crate::growths::values::Value::NamesOf;
-use crate::growths::values::Value::PadNew;
-use crate::growths::values::Value::PlanBetween;
-use crate::growths::values::Value::PlanUp;
-use crate::growths::values::Value::ReadLive;
-use crate::growths::values::Value::Renames;
-use crate::growths::values::Value::SetCopy;
-use crate::growths::values::Value::SetEmpty;
-use crate::growths::values::Value::SetIds;
-use crate::growths::values::Value::Staying;
-use crate::growths::values::Value::TableCopy;
-use crate::growths::values::Value::Transitions;
-use crate::growths::values::Value::UpOf;
-use crate::growths::values::Value::WriteLive;
-use crate::growths::values::Value::{self};
+use crate::growths::values::Value::{
+    self, Carry, Difference, DownOf, EditBetween, EditCopy, GraphShare, LineCopy, LineState,
+    LiveForm, NameCopy, NameOf, NameRead, NamesOf, PadNew, PlanBetween, PlanUp, ReadLive, Renames,
+    SetCopy, SetEmpty, SetIds, Staying, TableCopy, Transitions, UpOf, WriteLive,
+};
 
 #[derive(Clone, Copy)]
 pub(crate) enum How {
@@ -158,8 +83,6 @@ pub(crate) enum How {
     Command(Run),
     /// The arguments of a command are parsed.
     Asked(&'static str),
-    /// The log of an update is read.
-    Begins,
     /// Values that are made one after the other.
     Make(Made),
     /// A tree in memory is altered.
@@ -259,7 +182,7 @@ const NO_REPLAY: Run = Run {
     said: "undorc: BadLine 2\n",
 };
 
-pub(crate) static ROWS: [Row; 162] = [
+pub(crate) static ROWS: [Row; 161] = [
     (
         "Set::empty, and insert, remove, contains, join, without, same, len, is_empty and bound; \
          after up",
@@ -480,5 +403,4 @@ pub(crate) static ROWS: [Row; 162] = [
     ("invocation_of check", Asked("check -b base -l live web")),
     ("invocation_of cancel", Asked("cancel -l live")),
     ("invocation_of version", Asked("version")),
-    ("write_db, and a log; after up", Begins),
 ];

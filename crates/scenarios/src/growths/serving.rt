@@ -163,7 +163,7 @@ fn is_logging(
     file: &RunFile,
 ) -> Result<bool, NoMem> {
     let _ = print!(rt; "with_run_log: ");
-    let gate = gate.with_run_log(file, db)?;
+    let gate = gate.with_run_log(file, db, false)?;
     let is_new = gate.now() < MOST;
     drop(gate);
     Ok(is_new)

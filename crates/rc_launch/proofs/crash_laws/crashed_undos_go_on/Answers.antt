@@ -3,7 +3,8 @@ use Rattle.rc_launch.proofs.PutTexts.{TextLaws}
 use Rattle.rc_launch.proofs.crash_laws.crashed_undos_go_on.Goals as goal
 
 pub returns : goal.returns
-returns c d line back new bytes kept writes g end stands next behind room left is w crash ends =
+returns c d line back new keeping marked bytes kept writes g end stands next behind room left run
+    is w crash ends =
     let texts : TextLaws = record {
       whole = c.text_is_unique.ensures.value;
       base = c.spelling_is_unique.ensures.value;
@@ -13,7 +14,7 @@ returns c d line back new bytes kept writes g end stands next behind room left i
       crash = record {
         ends = record { texts = texts; empty = c.empty_logs_are_at_rest.ensures };
         line = c.spelling_is_unique-2.ensures.value;
-        new = c.lines_are_texts.ensures.new;
+        said = c.lines_say_one_thing.ensures;
         crashes = c.crashes_leave_one_line.ensures;
       };
       undo = record {
@@ -21,4 +22,5 @@ returns c d line back new bytes kept writes g end stands next behind room left i
         line = c.spelling_is_unique-2.ensures.value;
         new = c.lines_are_texts.ensures.new;
       };
-    }) d line new bytes kept writes stands room is g end crash ends back next behind left w
+    }) d line new keeping marked bytes kept writes stands room run is g end crash ends back next
+    behind left w

@@ -14,7 +14,7 @@ returns c list d bytes next h marks writes g end distinct is gives goes w crash 
         crash = record {
           ends = record { texts = texts; empty = c.empty_logs_are_at_rest.ensures };
           line = c.spelling_is_unique-2.ensures.value;
-          new = c.lines_are_texts.ensures.new;
+          said = c.lines_say_one_thing.ensures;
           crashes = c.crashes_leave_one_line.ensures;
         };
         undo = record {

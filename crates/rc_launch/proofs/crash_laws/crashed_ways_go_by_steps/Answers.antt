@@ -12,6 +12,6 @@ returns c on bytes next writes g end w crash ends = way_end (record {
     empty = c.empty_logs_are_at_rest.ensures;
   };
   line = c.spelling_is_unique-2.ensures.value;
-  new = c.lines_are_texts.ensures.new;
+  said = c.lines_say_one_thing.ensures;
   crashes = c.crashes_leave_one_line.ensures;
 }) on bytes g end ends next writes w crash

@@ -12,6 +12,6 @@ returns c d line new keeping l kept f g crash = crashed (record {
     empty = c.empty_logs_are_at_rest.ensures;
   };
   line = c.spelling_is_unique-2.ensures.value;
-  new = c.lines_are_texts.ensures.new;
+  said = c.lines_say_one_thing.ensures;
   crashes = c.crashes_leave_one_line.ensures;
 }) d line new keeping l kept f g crash
