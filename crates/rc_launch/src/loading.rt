@@ -87,7 +87,7 @@ fn may_raise(once: &Once) -> bool {
 
 // Returns the room for the runs on the databases of these texts. Besides the lines of a run it
 // covers what a log begins with and a file may grow by: a text of which no file is there yet, the
-// line of the step, and the state that the first of two steps adds.
+// line of the step with its mark, and the state that the first of two steps adds.
 fn room_for(base: &[u8], new: &[u8]) -> Room {
     let (services, names) = size_of(base);
     let (more, others) = size_of(new);
@@ -154,6 +154,8 @@ pub(crate) fn load<'a>(
 ) -> Result<Loaded<'a>, OpenFault<'a>>
     ensures loaded { IfOk result (IsLoaded command.entry file.entry live.now) }
     ensures lacks { LacksBase command.entry file.entry live.now → IfErr result IsNoDatabase }
+    ensures needed { IfErr result (λ fault. IsNoDatabase fault →
+        LacksBase command.entry file.entry live.now) }
 {
     if wants_base(&command) && live.base_path(file).is_none() {
         let path = command.session().live.unwrap_or("");
@@ -202,7 +204,8 @@ fn base_of<'a>(
     live: &LiveText<'a>,
     file: Option<&'a str>,
 ) -> Result<Option<FileText<'a>>, OpenFault<'a>>
-    ensures { IfOk result (λ text. option_map path_of text ≡ base_file live.now file.entry) }
+    ensures path { IfOk result (λ text. option_map path_of text ≡ base_file live.now file.entry) }
+    ensures fault { IfErr result (λ fault. IsNoDatabase fault → ⊥) }
 {
     let base = live.base_path(file);
     let (Some(path), Some(database)) = (base, live.database()) else {
@@ -243,7 +246,8 @@ fn read_at<'a>(
     rt: &HostRuntime,
     file: Option<&'a str>,
 ) -> Result<Option<FileText<'a>>, OpenFault<'a>>
-    ensures { IfOk result (λ text. option_map path_of text ≡ file.entry) }
+    ensures path { IfOk result (λ text. option_map path_of text ≡ file.entry) }
+    ensures fault { IfErr result (λ fault. IsNoDatabase fault → ⊥) }
 {
     match file {
         Some(path) => match FileText::read(rt, path) {

@@ -1,7 +1,7 @@
 //! Texts that were read from files. Only a read makes these values, so a command is carried out on
 //! what the files had.
-ghost use Rattle.std.specs.Prelude.{◌≡◌, ◌↔◌, IfOk, IsTrue, option_map, unwrap_or, []};
-ghost use Rattle.rc_launch.specs.Loading.{base_file, history_read};
+ghost use Rattle.std.specs.Prelude.{◌≡◌, ◌↔◌, IfErr, IfOk, IsTrue, option_map, unwrap_or, []};
+ghost use Rattle.rc_launch.specs.Loading.{IsNoDatabase, base_file, history_read};
 ghost use Rattle.rc_launch.specs.HeldHistory.{history_found};
 ghost use Rattle.rc_launch.specs.Logs.{IsCutBy, text_in};
 
@@ -22,7 +22,8 @@ pub struct FileText<'a> {
 impl<'a> FileText<'a> {
     /// Reads a file whole.
     pub(crate) fn read(rt: &HostRuntime, path: &'a str) -> Result<FileText<'a>, OpenFault<'a>>
-        ensures { IfOk result (λ text. text.path ≡ path.entry) }
+        ensures path { IfOk result (λ text. text.path ≡ path.entry) }
+        ensures fault { IfErr result (λ fault. IsNoDatabase fault → ⊥) }
     {
         match whole_file::read(rt, path) {
             Ok(bytes) => Ok(FileText { path, bytes }),
@@ -38,6 +39,7 @@ impl<'a> FileText<'a> {
     ) -> Result<FileText<'a>, OpenFault<'a>>
         ensures path { IfOk result (λ text. text.path ≡ path.entry) }
         ensures bytes { IfOk result (λ text. text.bytes.items ≡ database.now) }
+        ensures fault { IfErr result (λ fault. IsNoDatabase fault → ⊥) }
     {
         match Vec::from_slice(alloc, database) {
             Ok(bytes) => Ok(FileText { path, bytes }),
