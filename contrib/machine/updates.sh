@@ -65,8 +65,8 @@ passes() {
     [ "$to" = new ] || return
     [ "${status:-}" != 0 ] || return 0
     if cmp -s "$UNDORC_PLACE/.sets/$number/.db" "$UNDORC_PLACE/.sets/new/.db"; then
-        # An update leaves two states at most.
-        "$UNDORC_PROGRAM" journal 2> /dev/null | grep -q '^at [0-9]* of [12]$'
+        # Behind its border, an update leaves one entry at most.
+        "$UNDORC_PROGRAM" journal 2> /dev/null | tail -n 3 | grep -q '^[0-9]* update\( \|$\)'
     else
         note=$("$UNDORC_PROGRAM" status -b "$UNDORC_PLACE/.sets/new/.db" 2>&1) &&
             [ "${note#*is not the database of this session}" = "$note" ]

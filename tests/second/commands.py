@@ -189,8 +189,13 @@ def value(members):
 
 
 def journal(line):
-    out = b"at %d of %d\n" % (line.cursor, len(line.states))
-    for place, (old, new) in enumerate(zip(line.states, line.states[1:])):
+    return b"at %d of %d\n" % (line.cursor, len(line.states)) + b"".join(one + b"\n" for one in entries(line, 0))
+
+
+def entries(line, first):
+    """The entries of a line of states, numbered from this number on."""
+    found = []
+    for place, (old, new) in enumerate(zip(line.states, line.states[1:]), first):
         words = [b"%d" % place]
         for name in sorted(old.live ^ new.live):
             words.append((b"+" if name in new.live else b"-") + name)
@@ -198,8 +203,8 @@ def journal(line):
             one, other = old.bundles.get(name), new.bundles.get(name)
             if one != other:
                 words.append(name + b":" + value(one) + b">" + value(other))
-        out += b" ".join(words) + b"\n"
-    return out
+        found.append(b" ".join(words))
+    return found
 
 
 def live_line(line):

@@ -5,7 +5,7 @@ import copy
 import database
 import live
 import plans
-from commands import Command, do, fail_by_list, has_failed, task_of
+from commands import Command, do, entries, fail_by_list, has_failed, task_of
 from forms import Lines, Refusal, is_name, is_number
 
 GREATEST = 8
@@ -157,6 +157,23 @@ class History:
             return said
 
         return copy.deepcopy(self).travel(command, do_one)
+
+    def journal(self):
+        """The states of all generations, and the borders between them."""
+        at, count, lines = 0, 0, []
+        for place, one in enumerate(self.generations):
+            states = one.line.states
+            if place > 0:
+                words = [b"%d update" % (count - 1)] + [b"%s>%s" % pair for pair in one.renames]
+                is_passed = one.is_first_passed or len(states) == 1 and one.is_last_passed
+                lines.append(b" ".join(words + [b".."] * is_passed))
+            own = entries(one.line, count)
+            if own and one.is_last_passed:
+                own[-1] += b" .."
+            lines += own
+            at = count + one.line.cursor if place == self.at else at
+            count += len(states)
+        return b"at %d of %d\n" % (at, count) + b"".join(line + b"\n" for line in lines)
 
     def seal(self):
         """The current state alone is kept."""

@@ -113,7 +113,9 @@ def one_shot(case, answer):
     try:
         if case.dry and case.word == "change":
             command.word = b"dry"
-        if case.word in ("undo", "redo"):
+        if case.word == "journal" and not history.is_plain:
+            answer.out = history.journal() + b"ok\n"
+        elif case.word in ("undo", "redo"):
             answer.out = history.shown(command) if case.dry else history.travel(command, doing(case, answer))
         else:
             answer.out = doing(case, answer)(history, command)

@@ -1,16 +1,15 @@
 -- An undo that goes back to a state, undo by undo.
-use Rattle.std.proofs.Common.{◌≡◌, ◌∙◌, ◌<◌, ◌-◌, ◌==◌, ◌||◌, ℕ, suc, Bool, true, false}
-use Rattle.std.proofs.Common.{List, Option, None, Some, Result, Ok, IfOk, ap, arith, nat_lt, refl}
-use Rattle.std.proofs.Common.{subst, sym}
-use Rattle.std.proofs.lemmas.Bool.{eqb-true, ltb-false, or_parts}
+use Rattle.std.proofs.Common.{◌≡◌, ◌∙◌, ◌<◌, ◌-◌, ◌+◌, ◌==◌, ◌||◌, ℕ, zero, suc, Bool, true, false}
+use Rattle.std.proofs.Common.{List, Option, None, Some, Result, Ok, IfOk, ap, arith, nat_lt, not}
+use Rattle.std.proofs.Common.{refl, subst, sym}
+use Rattle.std.proofs.lemmas.Bool.{eqb-false, eqb-true, ltb-false, not-false, or_parts}
 use Rattle.rc_historytext.specs.Halting.{Halts}
-use Rattle.rc_historytext.specs.Present.{StandingText}
 use Rattle.rc_historytext.specs.Travelling.{Travels}
-use Rattle.rc_launch.specs.Back.{ArrivesBy, ComesBackTo, CountsBack, StandsOn, StopsBack}
-use Rattle.rc_launch.specs.Back.{StopsBefore, UndoesTo, goes_over, steps_by}
+use Rattle.rc_launch.specs.Back.{ComesBackTo, CountsBack, StandsOn, StopsBefore, UndoesTo, is_stop}
+use Rattle.rc_launch.specs.Back.{steps_by, stops_from}
 use Rattle.rc_launch.specs.Halted.{IsRefusedOn}
 use Rattle.rc_launch.specs.HeldHistory.{Leads}
-use Rattle.rc_launch.specs.declared.going_back.Back.{Back}
+use Rattle.rc_launch.specs.Numbers.{AreNumbered}
 use Rattle.rc_launch.specs.declared.live_store.LiveStore.{LiveStore}
 use Rattle.rc_model.proofs.Tests.{told}
 
@@ -50,70 +49,66 @@ pub undoes_by : (n m : ℕ) (old new : LiveStore) → n ≡ m → Leads old new 
     → Leads old new (UndoesTo m)
 undoes_by n m old new same leads = subst (λ (k : ℕ). Leads old new (UndoesTo k)) same leads
 
--- what is left of a difference of none
-none_left : (a b : ℕ) → nat_lt a b ≡ false → a - b ≡ 0 → a ≡ b
-none_left a b least none = omega (arith, ltb-false a b least, none)
+-- from a stop on there is one at least
+some_stop : (marks : List Bool) (state n : ℕ) → is_stop marks state ≡ true
+    → 0 < stops_from marks state (suc n)
+some_stop marks state zero stop =
+    let here : is_stop marks (state + 0) ≡ true =
+    ap (is_stop marks) (omega arith) ∙ stop in
+    rw here (omega arith)
+some_stop marks state (suc n) stop =
+    let before : 0 < stops_from marks state (suc n) = some_stop marks state n stop in
+    omega (arith, before)
+
+ways_some : (marks : List Bool) (state left : ℕ) → 0 < left → is_stop marks state ≡ true
+    → 0 < stops_from marks state left
+ways_some marks state zero some stop = absurd (omega (arith, some))
+ways_some marks state (suc n) some stop = some_stop marks state n stop
 
 -- no undo leads to a state only where it is the current one
-steps_none : (state : ℕ) (at : StandingText) → steps_by state at ≡ Some 0 → at.before ≡ state
-steps_none state at is = told (at.before == state) _
-    (λ yes. eqb-true at.before state yes)
-    (λ no. told (nat_lt at.before state || goes_over state at) _
-    (λ yes. let nothing : None ≡ Some 0 = rw yes at (rw no at is) in cc)
-    (λ some. let left : Some (at.before - state) ≡ Some 0 = rw some at (rw no at is) in
-    none_left at.before state (or_parts (nat_lt at.before state) (goes_over state at) some).0 cc))
+steps_none : (state at : ℕ) (marks : List Bool) → Some 0 ≡ steps_by state at marks → at ≡ state
+steps_none state at marks is = told (at == state) _
+    (λ yes. eqb-true at state yes)
+    (λ no. told (nat_lt at state || not (is_stop marks state)) _
+    (λ yes. let nothing : Some 0 ≡ None = rw yes at (rw no at is) in cc)
+    (λ some.
+    let left : Some 0 ≡ Some (stops_from marks state (at - state)) = rw some at (rw no at is) in
+    let none : stops_from marks state (at - state) ≡ 0 = cc in
+    let parts = or_parts (nat_lt at state) (not (is_stop marks state)) some in
+    let stop : is_stop marks state ≡ true = not-false (is_stop marks state) parts.1 in
+    let more : 0 < at - state =
+    omega (arith, ltb-false at state parts.0, eqb-false at state no) in
+    absurd (omega (arith, none, ways_some marks state (at - state) more stop))))
 
 -- a history on whose current state there is no undo to make stands on the state
-pub stands_on : (state earlier : ℕ) (bytes : List ℕ) (now : Back)
-    → CountsBack state bytes (Some now) → now.steps ≡ 0 → now.earlier ≡ earlier
-    → StandsOn state earlier bytes
-stands_on state earlier bytes now counts none same = (
-  counts.0,
-  counts.1,
-  steps_none state counts.0 (sym counts.2.0 ∙ ap (λ (k : ℕ). Some k) none),
-  sym counts.2.1 ∙ same,
+pub stands_on : (state : ℕ) (bytes : List ℕ) (now : ℕ) → CountsBack state bytes (Some now)
+    → now ≡ 0 → StandsOn state bytes
+stands_on state bytes now (at, marks, are, is) none = (
+  marks,
+  subst (λ (n : ℕ). AreNumbered bytes n marks)
+      (steps_none state at marks (ap (λ (k : ℕ). Some k) (sym none) ∙ is)) are,
 )
 
 -- it is where it was to go
-pub comes_here : (state : ℕ) (bytes : List ℕ) (back : Back) → CountsBack state bytes (Some back)
-    → back.steps ≡ 0 → ComesBackTo state bytes bytes
-comes_here state bytes back counts none = (
-  counts.0,
-  counts.1,
-  0,
-  sym counts.2.0 ∙ ap (λ (k : ℕ). Some k) none,
-  refl,
-  stands_on state counts.0.earlier bytes back counts none counts.2.1,
+pub comes_here : (state : ℕ) (bytes : List ℕ) (steps : ℕ) → CountsBack state bytes (Some steps)
+    → steps ≡ 0 → ComesBackTo state bytes bytes
+comes_here state bytes steps counts none = (
+  steps,
+  counts,
+  (
+    subst (λ (k : ℕ). UndoesTo k bytes bytes) (sym none) refl,
+    stands_on state bytes steps counts none,
+  ),
 )
-
--- the undos of the way back lead there
-pub comes_back : (state : ℕ) (bytes next : List ℕ) (back : Back)
-    → CountsBack state bytes (Some back) → ArrivesBy state back bytes next
-    → ComesBackTo state bytes next
-comes_back state bytes next back counts arrives = (
-  counts.0,
-  counts.1,
-  back.steps,
-  sym counts.2.0,
-  arrives.0,
-  subst (λ (e : ℕ). StandsOn state e next) counts.2.1 arrives.1,
-)
-
--- or fewer do
-pub stops_back : (state : ℕ) (bytes next : List ℕ) (back : Back)
-    → CountsBack state bytes (Some back) → StopsBefore back.steps bytes next
-    → StopsBack state bytes next
-stops_back state bytes next back counts stops =
-    (counts.0, counts.1, back.steps, sym counts.2.0, stops)
 
 -- a count that was made of a text is one of the text that is held
-pub counted : (E : Type 0) (result : Result (Option Back) E) (found : Option Back) (state : ℕ)
-    (bytes was : List ℕ) (back : Back) → result ≡ Ok found
-    → IfOk result (CountsBack state bytes) → found ≡ Some back → bytes ≡ was
-    → CountsBack state was (Some back)
-counted E result found state bytes was back is counts some same =
+pub counted : (E : Type 0) (result : Result (Option ℕ) E) (found : Option ℕ) (state : ℕ)
+    (bytes was : List ℕ) (steps : ℕ) → result ≡ Ok found
+    → IfOk result (CountsBack state bytes) → found ≡ Some steps → bytes ≡ was
+    → CountsBack state was (Some steps)
+counted E result found state bytes was steps is counts some same =
     let first : CountsBack state bytes found =
-    subst (λ (r : Result (Option Back) E). IfOk r (CountsBack state bytes)) is counts in
-    let second : CountsBack state bytes (Some back) =
-    subst (λ (f : Option Back). CountsBack state bytes f) some first in
-    subst (λ (h : List ℕ). CountsBack state h (Some back)) same second
+    subst (λ (r : Result (Option ℕ) E). IfOk r (CountsBack state bytes)) is counts in
+    let second : CountsBack state bytes (Some steps) =
+    subst (λ (f : Option ℕ). CountsBack state bytes f) some first in
+    subst (λ (h : List ℕ). CountsBack state h (Some steps)) same second

@@ -13,6 +13,10 @@ mod HaltLemmas
 -- What is launched as an undo or a redo of one line is a run inside the present generation of a
 -- history, or is refused.
 mod TravelLemmas
+-- The states of generations are counted, one generation after the other.
+mod Counting
+-- The lines of a journal: the end of the last one, and those of one generation more.
+mod JournalLines
 -- An undo that goes back to a state, undo by undo.
 mod BackLemmas
 -- A command is served alone by the history that its store was found to hold.

@@ -1,16 +1,17 @@
 -- A command is carried out as on a session that is kept alone.
 use Rattle.std.specs.Prelude.{◌≡◌, ◌⊎◌, Bool, true, false, None}
 use Rattle.rc_model.specs.Session.{Redo, Undo}
-use Rattle.rc_script.specs.Says.{SaysStep}
+use Rattle.rc_script.specs.Says.{SaysJournal, SaysStep}
 use Rattle.rc_args.specs.OnceAsked.{OnceSaying, Said, WantsDryRedo, WantsDryUndo, once_saying_of}
 use Rattle.rc_args.specs.declared.session_command.SessionCommand.{SessionCommand}
 use Rattle.rc_args.specs.declared.session_command.SessionCommand.TheVariants.{Check, Line}
 use Rattle.rc_args.specs.declared.session_command.SessionCommand.TheVariants.{Restart, Update}
 
--- a line does not undo or redo, and does not show what that would move
+-- a line does not undo or redo, does not show what that would move, and is not the journal
 abbrev pub StaysInside : OnceSaying → Type 0
 StaysInside (Said (SaysStep (Undo limit events))) = ⊥
 StaysInside (Said (SaysStep (Redo limit events))) = ⊥
+StaysInside (Said SaysJournal) = ⊥
 StaysInside WantsDryUndo = ⊥
 StaysInside WantsDryRedo = ⊥
 StaysInside other = Unit {0}

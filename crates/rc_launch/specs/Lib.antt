@@ -37,6 +37,10 @@ pub mod Putting
 pub mod Manners
 -- What an undo or a redo of a history leaves of its text that ends with status 1 or 2.
 pub mod Halted
+-- The numbers of the states of a history.
+pub mod Numbers
+-- The journal of a history: the states of all its generations, and the borders between them.
+pub mod HistoryJournal
 -- An undo that goes back to a state of the journal, by one undo after the other.
 pub mod Back
 -- What an update and a restart make of a history: both first take back what was cut short.

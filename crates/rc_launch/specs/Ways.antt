@@ -7,10 +7,10 @@ use Rattle.rc_args.specs.declared.named_words.NamedRequest.{NamedRequest}
 use Rattle.rc_args.specs.declared.update_words.UpdateRequest.{UpdateRequest}
 use Rattle.rc_args.specs.declared.session_command.SessionCommand.TheVariants.{Line}
 use Rattle.rc_args.specs.declared.session_command.SessionCommand.TheVariants as command
-use Rattle.rc_script.specs.Says.{SaysStep}
+use Rattle.rc_script.specs.Says.{SaysJournal, SaysStep}
 use Rattle.rc_historytext.specs.Travelling.{way_command}
 use Rattle.rc_launch.specs.declared.carrying_out.Led.{Led}
-use Rattle.rc_launch.specs.declared.carrying_out.Led.TheVariants.{Alone, Back, Way}
+use Rattle.rc_launch.specs.declared.carrying_out.Led.TheVariants.{Alone, Back, Journal, Way}
 use Rattle.rc_launch.specs.declared.carrying_out.Led.TheVariants as led
 
 -- a line is an undo (not `on`) or a redo (`on`), with this limit
@@ -28,6 +28,15 @@ AsksBack (Line request) state limit =
     IsWayLine request.once false limit × (request.to ≡ Some state)
 AsksBack other state limit = ⊥
 
+-- a line asks for the journal
+abbrev pub IsJournalLine : Once → Type 0
+IsJournalLine once = once_saying_of once ≡ Said SaysJournal
+
+-- a command is such a line
+abbrev pub AsksJournal : SessionCommand → Type 0
+AsksJournal (Line request) = IsJournalLine request.once × (request.to ≡ None)
+AsksJournal other = ⊥
+
 -- it is led as an undo (not `on`) or a redo (`on`)
 abbrev pub IsLedOn : (on : Bool) → Led → Type 0
 IsLedOn on (Way way) = way.is_on ≡ on
@@ -37,6 +46,11 @@ IsLedOn on other = ⊥
 abbrev pub IsLedBack : (state : ℕ) → Led → Type 0
 IsLedBack state (Back aim) = aim.state ≡ state
 IsLedBack state other = ⊥
+
+-- it is led as the journal of a history
+abbrev pub IsLedJournal : Led → Type 0
+IsLedJournal Journal = Unit {0}
+IsLedJournal other = ⊥
 
 -- it is led as on a session that is kept alone
 abbrev pub IsLedAlone : Led → Type 0

@@ -2,7 +2,7 @@
 ghost use Rattle.std.specs.Prelude.{◌≡◌, ◌⊎◌, ℕ, Bool, false, IsSome, IsTrue, List, None, Some};
 ghost use Rattle.std.specs.Prelude.{is_some, map, string_bytes};
 ghost use Rattle.rc_update.specs.Conversions.{conversions_of};
-ghost use Rattle.rc_streams.specs.Noting.{HasFailed};
+ghost use Rattle.rc_streams.specs.Noting.{HasFailed, inner_of};
 ghost use Rattle.rc_args.specs.OnceAsked.{once_saying_of};
 ghost use Rattle.rc_args.specs.NamedAsked.{named_ask_of};
 ghost use Rattle.rc_args.specs.SessionAsked.{session_ask_of};
@@ -16,18 +16,20 @@ ghost use Rattle.rc_historytext.specs.Travelling.{Travels};
 ghost use Rattle.rc_launch.specs.Alone.{IsServed, StaysInside};
 ghost use Rattle.rc_launch.specs.Halted.{HasHalted, IsRefusedOn};
 ghost use Rattle.rc_launch.specs.HeldHistory.{Leads, history_held, session_kept};
+ghost use Rattle.rc_launch.specs.HistoryJournal.{AnswersJournal};
 ghost use Rattle.rc_launch.specs.Loading.{NamesFile, bytes_of, session_in};
 ghost use Rattle.rc_launch.specs.Mending.{MendsFrom};
 ghost use Rattle.rc_launch.specs.Readable.{IsOpenedRead, IsPresentRead};
 ghost use Rattle.rc_launch.specs.TwoSteps.{RestartsFrom, UpdatesFrom};
 ghost use Rattle.rc_launch.specs.Back.{ComesBackTo, StopsBack};
 ghost use Rattle.rc_launch.specs.Serving.{Carries, IsReadAs, logged_of};
-ghost use Rattle.rc_launch.specs.Ways.{AsksBack, AsksMend, AsksRestart, AsksUpdate, AsksWay};
-ghost use Rattle.rc_launch.specs.Ways.{IsLedAlone, IsLedBack, IsLedMend, IsLedOn, IsLedRestart};
-ghost use Rattle.rc_launch.specs.Ways.{IsLedUpdate, IsWayLine};
+ghost use Rattle.rc_launch.specs.Ways.{AsksBack, AsksJournal, AsksMend, AsksRestart, AsksUpdate};
+ghost use Rattle.rc_launch.specs.Ways.{AsksWay, IsJournalLine, IsLedAlone, IsLedBack, IsLedJournal};
+ghost use Rattle.rc_launch.specs.Ways.{IsLedMend, IsLedOn, IsLedRestart, IsLedUpdate, IsWayLine};
 
 use crate::execution::Execution;
 use crate::going_back::{Aim, go_back};
+use crate::journal::tell_journal;
 use crate::live_store::LiveStore;
 use crate::mending::mend;
 use crate::opened::Opened;
@@ -52,6 +54,8 @@ enum Led<'a> {
     Back(Aim),
     /// As one that is shown.
     Shown(Shown<'a>),
+    /// As the journal of a history.
+    Journal,
     Update(&'a UpdateRequest<'a>),
     Restart(&'a NamedRequest<'a>),
     /// As a check that repairs what it finds.
@@ -141,6 +145,15 @@ pub fn carry_out<'x, T: Threads + Wait + Sync, R: Read, W: Write, F: Write>(
         Leads (store_of devices.old.outputs.keeper) (store_of devices.new.outputs.keeper)
         (MendsFrom (named_ask_of request) (session_ask_of (session_in opened.now.loaded))) }
 
+    // The journal of a history is printed with all its states, and nothing else changes.
+    ensures journal { AsksJournal opened.now.loaded.command → (bytes : List ℕ) →
+        history_held (store_of devices.old.outputs.keeper) ≡ Some bytes →
+        AnswersJournal (session_in opened.now.loaded) bytes result.code
+        (W.contents (inner_of devices.old.outputs.writer))
+        (W.contents (inner_of devices.new.outputs.writer))
+        (F.contents devices.old.faults) (F.contents devices.new.faults)
+        × (devices.new.outputs.keeper ≡ devices.old.outputs.keeper) }
+
     // What leads no further than one session is carried out as `serve` does it.
     ensures served { IsServed opened.now.loaded.command
         (is_some (history_held (store_of devices.old.outputs.keeper))) →
@@ -162,6 +175,7 @@ pub fn carry_out<'x, T: Threads + Wait + Sync, R: Read, W: Write, F: Write>(
         Led::Way(way) => status_of(travel(&execution, way, devices)),
         Led::Back(aim) => status_of(go_back(&execution, aim, devices)),
         Led::Shown(shown) => status_of(show(&execution, shown, devices)),
+        Led::Journal => status_of(tell_journal(&execution, devices)),
         Led::Update(request) => status_of(update(&execution, request, devices)),
         Led::Restart(request) => status_of(restart(&execution, request, devices)),
         Led::Mend(request) => status_of(mend(&execution, request, devices)),
@@ -181,6 +195,7 @@ fn led_by<'a>(command: &'a SessionCommand<'_>, is_history: bool) -> Led<'a>
         IsLedRestart request result }
     ensures mend { (request : NamedRequest) → AsksMend command.now request →
         IsLedMend request result }
+    ensures journal { AsksJournal command.now → IsTrue is_history → IsLedJournal result }
     ensures served { IsServed command.now is_history → IsLedAlone result }
 {
     match command {
@@ -198,6 +213,8 @@ fn led_to(once: &Once, to: Option<u32>, is_history: bool) -> Led<'_>
         IsTrue is_history → IsLedOn on result }
     ensures back { (state limit : ℕ) → IsWayLine once.now false limit → to ≡ Some state →
         IsLedBack state result }
+    ensures journal { IsJournalLine once.now → to ≡ None → IsTrue is_history →
+        IsLedJournal result }
     ensures served { to ≡ None →
         (is_history ≡ false) ⊎ StaysInside (once_saying_of once.now) → IsLedAlone result }
 {
@@ -224,6 +241,7 @@ fn led_back(once: &Once, state: u32) -> Led<'_>
 // Returns how a line is led on a history.
 fn led_line(once: &Once) -> Led<'_>
     ensures way { (on : Bool) (limit : ℕ) → IsWayLine once.now on limit → IsLedOn on result }
+    ensures journal { IsJournalLine once.now → IsLedJournal result }
     ensures served { StaysInside (once_saying_of once.now) → IsLedAlone result }
 {
     match once {
@@ -237,6 +255,7 @@ fn led_line(once: &Once) -> Led<'_>
             is_on: true,
             limit: *limit,
         }),
+        Once::Line(SessionLine::Journal) => Led::Journal,
         Once::Line(_) | Once::DryRestart(_) | Once::Down => Led::Alone,
     }
 }

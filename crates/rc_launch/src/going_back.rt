@@ -1,5 +1,5 @@
 //! An undo that goes back to a state of the journal, by one undo after the other.
-ghost use Rattle.std.specs.Prelude.{◌≡◌, List, ℕ, None, Some, false, IfOk};
+ghost use Rattle.std.specs.Prelude.{◌≡◌, List, ℕ, None, Some, false, IfOk, IfSome};
 ghost use Rattle.std.specs.Borrow.{Bor};
 ghost use Rattle.rc_streams.specs.Noting.{HasFailed};
 ghost use Rattle.rc_cli.specs.Storing.{store_of};
@@ -8,19 +8,21 @@ ghost use Rattle.rc_historytext.specs.Travelling.{Travels};
 ghost use Rattle.rc_launch.specs.Halted.{HasHalted, IsRefusedOn};
 ghost use Rattle.rc_launch.specs.HeldHistory.{Leads, history_held};
 ghost use Rattle.rc_launch.specs.Loading.{NamesFile, session_in};
-ghost use Rattle.rc_launch.specs.Readable.{AreRead, IsOpenedRead, IsPresentRead};
-ghost use Rattle.rc_launch.specs.Back.{ArrivesBy, ComesBackTo, CountsBack, IsBackBy, StopsBack};
-ghost use Rattle.rc_launch.specs.Back.{StopsBefore, UndoesTo, goes_over, steps_by};
+ghost use Rattle.rc_launch.specs.Readable.{AreRead, AreRefused, IsOpenedRead, IsPresentRead};
+ghost use Rattle.rc_launch.specs.Readable.{IsUnreadFault};
+ghost use Rattle.rc_launch.specs.Back.{ArrivesBy, ComesBackTo, CountsBack, StopsBack, StopsBefore};
+ghost use Rattle.rc_launch.specs.Back.{UndoesTo, is_stop, steps_by};
 
 use crate::execution::Execution;
 use crate::live_store::LiveStore;
 use crate::loading::bytes_of;
-use crate::outcomes::{fail_on, hindered, say_done, tell_unkept, tell_unread};
+use crate::numbers::{GenerationFault, Numbered, numbered_of};
+use crate::outcomes::{fail_on, hindered, say_done, tell_unkept, tell_unread, tell_untold};
 use crate::serving::read_of;
 use crate::travel::{Way, history_in, travel};
 use rc_args::SessionRequest;
 use rc_cli::sessions::{Devices, LiveFile, SessionFault, begin, spelled};
-use rc_historytext::{HistoryFault, Standing, present_of, standing_of};
+use rc_historytext::present_of;
 use rc_serve::ServeFault;
 use rc_streams::Failure;
 use rc_streams::ending::{DONE, FAILED};
@@ -37,16 +39,8 @@ pub(crate) struct Aim {
     pub limit: u32,
 }
 
-/// The way back to a state: how many undos it takes, and how many generations come before the
-/// present one.
-#[derive(Clone, Copy)]
-struct Back {
-    steps: usize,
-    earlier: usize,
-}
-
-/// Goes back to a state of the present generation, and returns the status. Nothing moves if an undo
-/// would not stop there.
+/// Goes back to a state of the journal, and returns the status. Nothing moves if an undo would not
+/// stop there.
 pub(crate) fn go_back<'x, T: Threads + Wait + Sync, R: Read, W: Write, F: Write>(
     execution: &Execution<'x, '_, T>,
     aim: Aim,
@@ -77,9 +71,9 @@ pub(crate) fn go_back<'x, T: Threads + Wait + Sync, R: Read, W: Write, F: Write>
     }
 }
 
-// Returns why the texts of a session and of its database are refused, if they are: those of the
-// present generation of a history, or, where there is none, those that were read.
-fn unread<'f, T>(
+/// Returns why the texts of a session and of its database are refused, if they are: those of the
+/// present generation of a history, or, where there is none, those that were read.
+pub(crate) fn unread<'f, T>(
     execution: &Execution<'_, '_, T>,
     history: Option<&[u8]>,
 ) -> Option<SessionFault<'f>>
@@ -87,6 +81,8 @@ fn unread<'f, T>(
         IsOpenedRead execution.now.opened.now }
     ensures read { (bytes : Bor (List ℕ)) → history.entry ≡ Some bytes → result ≡ None →
         IsPresentRead (session_in execution.now.opened.now.loaded) bytes.now }
+    ensures refused { (bytes : Bor (List ℕ)) → history.entry ≡ Some bytes →
+        IfSome result (IsUnreadFault (session_in execution.now.opened.now.loaded) bytes.now) }
 {
     let (alloc, opened) = (execution.rt.alloc(), execution.opened);
     let Some(history) = history else {
@@ -109,7 +105,8 @@ fn unread_texts<'f>(
     base: &[u8],
     live: LiveFile<'_>,
 ) -> Option<SessionFault<'f>>
-    ensures { result ≡ None → AreRead base.now request.now live.entry }
+    ensures read { result ≡ None → AreRead base.now request.now live.entry }
+    ensures refused { IfSome result (AreRefused base.now request.now live.entry) }
 {
     let db = match spelled(alloc, Some(base), &[]) {
         Ok((db, _none)) => db,
@@ -124,8 +121,7 @@ fn unread_texts<'f>(
     }
 }
 
-// Goes back to a state of the present generation of the history that is kept, and returns the
-// status.
+// Goes back to a state of the history that is kept, and returns the status.
 fn go_back_on<'x, T: Threads + Wait + Sync, R: Read, W: Write, F: Write>(
     execution: &Execution<'x, '_, T>,
     aim: Aim,
@@ -143,38 +139,37 @@ fn go_back_on<'x, T: Threads + Wait + Sync, R: Read, W: Write, F: Write>(
 {
     let alloc = execution.rt.alloc();
     match steps_back(alloc, history_in(devices), aim.state) {
-        Ok(Some(back)) if back.steps == 0 => say_done(b"ok\n", devices),
-        Ok(Some(back)) => arrive(execution, aim, back, devices),
+        Ok(Some(steps)) if steps == 0 => say_done(b"ok\n", devices),
+        Ok(Some(steps)) => arrive(execution, aim, steps, devices),
         Ok(None) => tell_unkept(alloc, aim.state, devices),
-        Err(_) => fail_on(b"Memory", devices),
+        Err(fault) => tell_untold(alloc, fault, devices),
     }
 }
 
-// Undoes as often as a way back says, tests where that has led, and returns the status.
+// Undoes so many times, tests whether that has led to a state, and returns the status.
 fn arrive<'x, T: Threads + Wait + Sync, R: Read, W: Write, F: Write>(
     execution: &Execution<'x, '_, T>,
     aim: Aim,
-    back: Back,
+    steps: usize,
     devices: &mut Devices<R, W, F, LiveStore<'x>>,
 ) -> u8
     ensures done { result ≡ 0 → NamesFile execution.now.opened.now.loaded →
         Leads (store_of devices.old.outputs.keeper) (store_of devices.new.outputs.keeper)
-        (ArrivesBy aim.state back) }
+        (ArrivesBy aim.state steps) }
     ensures refused { result ≡ 1 → NamesFile execution.now.opened.now.loaded →
         Leads (store_of devices.old.outputs.keeper) (store_of devices.new.outputs.keeper)
         (IsRefusedOn false) }
     ensures stopped { result ≡ 2 → NamesFile execution.now.opened.now.loaded →
         Leads (store_of devices.old.outputs.keeper) (store_of devices.new.outputs.keeper)
-        (StopsBefore back.steps) }
+        (StopsBefore steps) }
 {
-    match undo_times(execution, aim.limit, back.steps, devices) {
+    match undo_times(execution, aim.limit, steps, devices) {
         DONE => {}
         code => return code,
     }
     match steps_back(execution.rt.alloc(), history_in(devices), aim.state) {
-        Ok(Some(now)) if now.steps == 0 && now.earlier == back.earlier => DONE,
-        Ok(_) => fail_on(b"Strange", devices),
-        Err(_) => fail_on(b"Memory", devices),
+        Ok(Some(left)) if left == 0 => DONE,
+        _ => fail_on(b"Strange", devices),
     }
 }
 
@@ -230,46 +225,44 @@ fn undo_once<'x, T: Threads + Wait + Sync, R: Read, W: Write, F: Write>(
     travel(execution, way, devices)
 }
 
-// Returns the way from where a history stands back to a state of its present generation, or none if
-// an undo would not stop there.
-fn steps_back(alloc: Global, history: &[u8], state: u32) -> Result<Option<Back>, HistoryFault>
+// Returns how many undos lead from where a history stands back to a state, or none if an undo would
+// not stop there.
+fn steps_back(alloc: Global, history: &[u8], state: u32) -> Result<Option<usize>, GenerationFault>
     ensures { IfOk result (CountsBack state history.now) }
 {
-    match standing_of(alloc, history) {
-        Ok(standing) => Ok(back_by(&standing, state as usize)),
+    match numbered_of(alloc, history) {
+        Ok(numbered) => {
+            let steps = steps_by(&numbered, state as usize);
+            drop(numbered);
+            Ok(steps)
+        }
         Err(fault) => Err(fault),
     }
 }
 
-// Returns the way back to a state, or none if an undo would not stop there.
-fn back_by(standing: &Standing<'_>, state: usize) -> Option<Back>
-    ensures { IsBackBy state standing.now result }
-{
-    match steps_by(standing, state) {
-        Some(steps) => Some(Back {
-            steps,
-            earlier: standing.earlier,
-        }),
-        None => None,
-    }
-}
-
 // Returns how many undos lead back to a state, or none if an undo would not stop there.
-fn steps_by(standing: &Standing<'_>, state: usize) -> Option<usize>
-    ensures { result ≡ steps_by state standing.now }
+fn steps_by(numbered: &Numbered, state: usize) -> Option<usize>
+    ensures { result ≡ steps_by state numbered.now.at numbered.now.marks.items }
 {
-    if standing.before == state {
+    let (at, marks) = (numbered.at, &numbered.marks);
+    if at == state {
         return Some(0);
     }
-    if standing.before < state || goes_over(standing, state) {
+    if at < state || !is_stop(marks, state) {
         return None;
     }
-    Some(standing.before - state)
+    let mut steps = 0;
+    for count in 0..at - state {
+        if is_stop(marks, state + count) {
+            steps += 1;
+        }
+    }
+    Some(steps)
 }
 
-// Returns true if an undo goes on from a state before the current one of the present generation.
-fn goes_over(standing: &Standing<'_>, state: usize) -> bool
-    ensures { result ≡ goes_over state standing.now }
+// Returns true if an undo stops at a state.
+fn is_stop(marks: &[bool], state: usize) -> bool
+    ensures { result ≡ is_stop marks.now state }
 {
-    state == 0 && standing.first_passed && standing.earlier > 0
+    state == 0 || !marks.get(state).copied().unwrap_or(false)
 }

@@ -1,8 +1,13 @@
 //! The statuses of a command of several steps, and what it writes beside the answers of its steps.
 ghost use Rattle.std.specs.Prelude.{◌≡◌, ◌≢◌, ◌⊎◌};
+ghost use Rattle.std.specs.Io.KnownBytes.{Appends};
+ghost use Rattle.rc_streams.specs.Noting.{inner_of};
+ghost use Rattle.rc_cli.specs.SessionFaults.{IsTold};
 ghost use Rattle.rc_cli.specs.Storing.{store_of};
 ghost use Rattle.rc_launch.specs.Halted.{IsBehindRun};
+ghost use Rattle.rc_launch.specs.declared.numbers.GenerationFault.TheVariants as generation;
 
+use crate::numbers::GenerationFault;
 use rc_cli::sessions::{Devices, SessionFault, tell_ended};
 use rc_serve::KeepFault;
 use rc_streams::ending::{DONE, FAILED, REFUSED};
@@ -27,7 +32,10 @@ pub(crate) fn say_done<R, W: Write, F: Write, S>(
     devices: &mut Devices<R, W, F, S>,
 ) -> u8
     ensures same { store_of devices.new.outputs.keeper ≡ store_of devices.old.outputs.keeper }
+    ensures kept { devices.new.outputs.keeper ≡ devices.old.outputs.keeper }
     ensures statuses { (result ≡ 0) ⊎ (result ≡ 111) }
+    ensures written { result ≡ 0 → Appends (W.contents (inner_of devices.old.outputs.writer))
+        (W.contents (inner_of devices.new.outputs.writer)) answer.now }
 {
     match write_answer(&mut devices.outputs.writer, answer) {
         Ok(()) => DONE,
@@ -43,6 +51,8 @@ pub(crate) fn tell_unjoined<R, W, F: Write, S>(
     devices: &mut Devices<R, W, F, S>,
 ) -> u8
     ensures refused { result ≢ 0 }
+    ensures statuses { (result ≡ 1) ⊎ (result ≡ 111) }
+    ensures outputs { devices.new.outputs ≡ devices.old.outputs }
     ensures same { store_of devices.new.outputs.keeper ≡ store_of devices.old.outputs.keeper }
 {
     match format!(in alloc; "NotJoined {border}") {
@@ -52,6 +62,24 @@ pub(crate) fn tell_unjoined<R, W, F: Write, S>(
             REFUSED
         }
         Err(_) => fail_on(b"Memory", devices),
+    }
+}
+
+/// Reports a generation whose texts are not those of a database and of a session of it, by the
+/// border beside it, and returns the status. Nothing has moved.
+pub(crate) fn tell_untold<R, W, F: Write, S>(
+    alloc: Global,
+    fault: GenerationFault,
+    devices: &mut Devices<R, W, F, S>,
+) -> u8
+    ensures refused { (result ≡ 1) ⊎ (result ≡ 111) }
+    ensures untold { result ≡ 1 → fault ≢ generation.Memory }
+    ensures outputs { devices.new.outputs ≡ devices.old.outputs }
+    ensures same { store_of devices.new.outputs.keeper ≡ store_of devices.old.outputs.keeper }
+{
+    match fault {
+        GenerationFault::Untold(place) => tell_unjoined(alloc, place.max(1), devices),
+        GenerationFault::Memory => fail_on(b"Memory", devices),
     }
 }
 
@@ -81,6 +109,9 @@ pub(crate) fn tell_unread<R, W, F: Write, S>(
     devices: &mut Devices<R, W, F, S>,
 ) -> u8
     ensures refused { (result ≡ 1) ⊎ (result ≡ 111) }
+    ensures told { IsTold fault.entry result (F.contents devices.old.faults)
+        (F.contents devices.new.faults) }
+    ensures outputs { devices.new.outputs ≡ devices.old.outputs }
     ensures same { store_of devices.new.outputs.keeper ≡ store_of devices.old.outputs.keeper }
 {
     tell_ended(alloc, &mut devices.faults, Err(fault))
@@ -89,6 +120,7 @@ pub(crate) fn tell_unread<R, W, F: Write, S>(
 /// Reports a failure, and returns the status.
 pub(crate) fn fail_on<R, W, F: Write, S>(word: &[u8], devices: &mut Devices<R, W, F, S>) -> u8
     ensures failed { result ≡ 111 }
+    ensures outputs { devices.new.outputs ≡ devices.old.outputs }
     ensures same { store_of devices.new.outputs.keeper ≡ store_of devices.old.outputs.keeper }
 {
     tell(&mut devices.faults, word);

@@ -139,7 +139,13 @@ pub(crate) fn serve_on<'x, T: Threads + Wait + Sync, R: Read, W: Write, F: Write
 {
     let opened = execution.opened;
     let log = log_of(execution.rt, opened);
-    let host = host_of(execution.rt, execution.threads, &log, opened, is_restart(service));
+    let host = host_of(
+        execution.rt,
+        execution.threads,
+        &log,
+        opened,
+        is_restart(service),
+    );
     launch(&host, opened.session(), service, Some(base), live, devices)
 }
 

@@ -1,12 +1,15 @@
 //! Texts that were read from files. Only a read makes these values, so a command is carried out on
 //! what the files had.
-ghost use Rattle.std.specs.Prelude.{◌≡◌, ◌↔◌, IfErr, IfOk, IsTrue, option_map, unwrap_or, []};
+ghost use Rattle.std.specs.Prelude.{◌≡◌, ◌↔◌, [], ℕ, List, IfErr, IfOk, IfSome, IsTrue, Some};
+ghost use Rattle.std.specs.Prelude.{option_map, unwrap_or};
+ghost use Rattle.rc_launch.specs.Back.{StandsOn};
 ghost use Rattle.rc_launch.specs.Loading.{IsNoDatabase, base_file, history_read};
 ghost use Rattle.rc_launch.specs.HeldHistory.{history_found};
 ghost use Rattle.rc_launch.specs.Logs.{IsCutBy, text_in};
 
 use crate::fault::OpenFault;
 use crate::fronts::is_of;
+use crate::numbers::numbered_of;
 use rc_historytext::{HistoryFault, is_history, present_of};
 use rc_streams::{run_file, whole_file};
 use std::alloc::Global;
@@ -135,6 +138,18 @@ impl<'a> LiveText<'a> {
             Some(history) => Some(&history.text),
             None => None,
         }
+    }
+
+    /// Returns the number of the current state of the history that was found, if it was one and its
+    /// states can be counted.
+    pub fn number(&self, alloc: Global) -> Option<usize>
+        ensures { IfSome result (λ number. (history : List ℕ)
+            × (history_found self.now ≡ Some history) × StandsOn number history) }
+    {
+        let numbered = numbered_of(alloc, self.history()?).ok()?;
+        let number = numbered.at;
+        drop(numbered);
+        Some(number)
     }
 
     /// Returns the path of the database of a command: this file if a history stood there, else the

@@ -119,8 +119,8 @@ wrong change --to 1 -b base -l live
 UNDORC_DB=base UNDORC_LIVE=live expect 1 '' 'undorc: NoState 9\n' '' undo --to 9
 UNDORC_DB=base UNDORC_LIVE=live wrong undo --to 1 -x none
 
-# In a history states of the present database alone count. An undo goes on over the first one after an update, which is
-# refused, and an undo to another state crosses no border.
+# The states of all databases in a file count. An undo to a state goes back across updates, and to no state that is only
+# passed.
 database=new
 rm -f live live.*
 sed 's/^true$/exit/' base > new
@@ -128,17 +128,52 @@ sed 's/^true$/exit/' base > new
 "$program" update -b base -B new -R net -l live -x none > setup 2>&1
 "$program" change db -l live -x none > setup
 "$program" change log -l live -x none > setup
-expect 0 'at 3 of 4\n0 +net\n1 +db\n2 +log\nok\n' '' '' journal -l live
-leaves_alone 1 '' 'undorc: NoState 0\n' --to 0 -x none
-leaves_alone 0 'ok\n' '' --to 3 -x none
-leaves_alone 1 '' 'undorc: NoState 4\n' --to 4 -x none
-goes_back 0 'lowered log\nok\nlowered db\nok\n' '' --to 1 -x none
-leaves_alone 1 '' 'undorc: NoState 0\n' --to 0 -x none
+entries='0 +net +root\n1 -net ..\n2 update ..\n3 +net\n4 +db\n5 +log\n'
+told() {
+    expect 0 "$1ok\n" '' '' journal -l live
+}
+told "at 6 of 7\n$entries"
+cp live six
+leaves_alone 0 'ok\n' '' --to 6 -x none
+leaves_alone 1 '' 'undorc: NoState 7\n' --to 7 -x none
+leaves_alone 1 '' 'undorc: NoState 3\n' --to 3 -x none
+leaves_alone 1 '' 'undorc: NoState 2\n' --to 2 -x none
+goes_back 0 'lowered log\nok\nlowered db\nok\n' '' --to 4 -x none
+told "at 4 of 7\n$entries"
 expect 0 'lowered net\nok\nraised net\nok\n' '' '' undo -l live -x none
-database=base
-goes_back 0 'lowered net root\nok\n' '' --to 0 -x none
+told "at 1 of 7\n$entries"
+expect 0 'lowered net\nok\nraised net\nok\n' '' '' redo -l live -x none
+told "at 4 of 7\n$entries"
+cp six live
+goes_back 0 'lowered log\nok\nlowered db\nok\nlowered net\nok\nraised net\nok\nlowered net root\nok\n' '' --to 0 -x none
+told "at 0 of 7\n$entries"
+database=base leaves_alone 0 'ok\n' '' --to 0 -x none
+# It stops within an update, and the next undo goes on from there.
+cp six live
+goes_back 2 'lowered log\nok\nlowered db\nok\nlowered net\nok\nfailed net\nok\n' '' --to 1 -q -x up:net
+told "at 2 of 7\n$entries"
+goes_back 0 'raised net\nok\n' "$(not_base new)\n" --to 1 -x none
+# The text of the present database can't be read: nothing is shown, and nothing moves. Or that of another one: the undos
+# end where they would cross to it.
+sed 's/^service db longrun/service db longfun/' six > live
+expect 1 '' 'undorc: Bad 23\n' '' journal -l live
+cp live six.bad
+expect 1 '' 'undorc: Bad 23\n' '' undo --to 1 -x none -l live
+wants '' ''
+cmp live six.bad > out 2>&1 || true
+: > err
+echo 0 > status
+judge 'a file whose text is bad, behind an undo' 0
+sed '0,/^service db longrun/s//service db longfun/' six > live
+expect 1 '' 'undorc: NotJoined 1\n' '' journal -l live
+goes_back 2 'lowered log\nok\nlowered db\nok\n' 'undorc: NotJoined 1\n' --to 1 -x none
+sed '0,/^now/s//nox/' six > live
+expect 1 '' 'undorc: NotJoined 1\n' '' journal -l live
+expect 1 '' 'undorc: NotJoined 1\n' '' undo --to 4 -x none -l live
 # Without a database before it, an undo stops on the first state.
-"$program" seal -b base -l live > setup
+cp six live
+"$program" undo -l live -x none > setup
+"$program" seal -l live > setup
 "$program" change log -l live -x none > setup
 goes_back 0 'lowered log\nok\n' '' --to 0 -x none
 database=

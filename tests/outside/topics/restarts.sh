@@ -98,17 +98,17 @@ goes 2 'failed web\nok\n' 'at 1 of 2\n0 +db +log +net +root +web\nok\n' web -x d
 # What fails on the way up stays down with what needs it. An undo takes that back, and so does the next restart.
 starts web
 goes 2 'lowered db net web\nok\nraised net\nfailed db\nblocked web\nok\n' \
-    'at 2 of 3\n0 +db +log +net +root +web\n1 -db -web\nok\n' net -x up:db
+    'at 2 of 3\n0 +db +log +net +root +web\n1 -db -web ..\nok\n' net -x up:db
 cp live was
 expect 0 'raised db web\nok\n' '' '' undo -b base -l live -x none
-expect 0 'at 1 of 3\n0 +db +log +net +root +web\n1 -db -web\nok\n' '' '' journal -b base -l live
+expect 0 'at 1 of 3\n0 +db +log +net +root +web\n1 -db -web ..\nok\n' '' '' journal -b base -l live
 cp was live
 goes 0 'raised db web\nok\nlowered web\nok\nraised web\nok\n' 'at 1 of 2\n0 +db +log +net +root +web\nok\n' web -x none
 cp was live
-goes 2 'raised db\nfailed web\nok\n' 'at 2 of 4\n0 +db +log +net +root +web\n1 -web\n2 -db\nok\n' net -x up:web
+goes 2 'raised db\nfailed web\nok\n' 'at 2 of 4\n0 +db +log +net +root +web\n1 -web\n2 -db ..\nok\n' net -x up:web
 # One that is refused behind that has status 2.
 cp was live
-goes 2 'raised db web\nok\nrefused Unknown nobody\n' 'at 1 of 3\n0 +db +log +net +root +web\n1 -db -web\nok\n' \
+goes 2 'raised db web\nok\nrefused Unknown nobody\n' 'at 1 of 3\n0 +db +log +net +root +web\n1 -db -web ..\nok\n' \
     nobody -x none
 
 # What is refused moves nothing.

@@ -64,14 +64,29 @@ update() {
     shift 3
     expect "$ends" "$output" "$fault" '' update -b old -B new -l live "$@"
 }
-# carries LOWERED RAISED LOG LIVE JOURNAL [OPTION..]: an update by scripts, what is shown of it before, and the same by a
+# signed SIGN NAMES: the names, each behind a sign
+signed() {
+    # The names stand in one word.
+    # shellcheck disable=SC2086
+    [ -z "$2" ] || printf " $1%s" $2
+}
+# entered LOWERED RAISED RENAMES: the journal behind an update of what is live in `live.old`. What it has lowered leads to
+# a passed state, and so does its border if it raises something.
+entered() {
+    text='0 +a +b +c +d +e\n' number=1
+    [ -z "$1" ] || text="$text$number$(signed - "$1") ..\\n" number=2
+    text="$text$number update$3${2:+ ..}\\n" number=$((number + 1))
+    [ -z "$2" ] || text="$text$number$(signed + "$2")\\n" number=$((number + 1))
+    printf '%s' "at $number of $((number + 1))\\n${text%??}"
+}
+# carries LOWERED RAISED LOG LIVE RENAMES [OPTION..]: an update by scripts, what is shown of it before, and the same by a
 # table
 carries() {
     fresh
     lower='' raise=''
     [ -z "$1" ] || lower="lower$1\\n"
     [ -z "$2" ] || raise="raise$2\\n"
-    lowers=$1 raises=$2 logged=$3 lives=$4 journals=$5
+    lowers=$1 raises=$2 logged=$3 lives=$4 journals=$(entered "$1" "$2" "$5")
     shift 5
     update 0 "${lower}ok\n${raise}ok\n" '' -n -q "$@"
     same_files "what update -n leaves" live.old live
@@ -92,15 +107,13 @@ compiled old
 expect 0 'raised a b c d e\nok\n' '' '' change c e -b old -l live.old
 # It is the text of a session, as `session` makes it: the update makes it a history.
 makes_plain live.old
-all='at 0 of 1'
 
-# The same database: nothing moves, and the journal begins anew.
+# The same database: nothing moves.
 cp old new
-carries '' '' '' ' a b c d e' "$all"
+carries '' '' '' ' a b c d e' ''
 
 # Scripts, limits and the flag count from the next transition on: nothing moves.
 lines='down b\ndown c\nup b\nup c\n'
-back='at 1 of 2\n0 +b +c'
 for file in up down timeout-up timeout-down flag-essential; do
     old_tree
     case $file in
@@ -108,7 +121,7 @@ for file in up down timeout-up timeout-down flag-essential; do
         *) echo 1000 > "tree/b/$file" ;;
     esac
     compiled new
-    carries '' '' '' ' a b c d e' "$all"
+    carries '' '' '' ' a b c d e' ''
     case $file in
         down)
             expect 0 'lowered b c\nok\n' '' '' change -D b -b new -l live
@@ -122,59 +135,59 @@ done
 old_tree
 service b a d
 compiled new
-carries ' b c' ' b c' "$lines" ' a b c d e' "$back"
+carries ' b c' ' b c' "$lines" ' a b c d e' ''
 old_tree
 service b
 compiled new
-carries ' b c' ' b c' "$lines" ' a b c d e' "$back"
+carries ' b c' ' b c' "$lines" ' a b c d e' ''
 old_tree
 service b d
 compiled new
-carries ' b c' ' b c' "$lines" ' a b c d e' "$back"
+carries ' b c' ' b c' "$lines" ' a b c d e' ''
 
 # It needs what was down, and what is new; that comes up with it.
 old_tree
 service b a f
 compiled new
-carries ' b c' ' b c f' 'down b\ndown c\nup b\nup c\nup f\n' ' a b c d e f' 'at 1 of 2\n0 +b +c +f'
+carries ' b c' ' b c f' 'down b\ndown c\nup b\nup c\nup f\n' ' a b c d e f' ''
 old_tree
 service b a z
 service z
 compiled new
-carries ' b c' ' b c z' 'down b\ndown c\nup b\nup c\nup z\n' ' a b c d e z' 'at 1 of 2\n0 +b +c +z'
+carries ' b c' ' b c z' 'down b\ndown c\nup b\nup c\nup z\n' ' a b c d e z' ''
 
 # What is new, or was down, and is needed by nothing that was up stays down, however it is altered.
 old_tree
 service f a
 service z
 compiled new
-carries '' '' '' ' a b c d e' "$all"
+carries '' '' '' ' a b c d e' ''
 
 # It is gone, and so is what needs it; or what needs it needs it no more; or all is gone.
 old_tree
 rm -r tree/c
 compiled new
-carries ' c' '' 'down c\n' ' a b d e' "$all"
+carries ' c' '' 'down c\n' ' a b d e' ''
 old_tree
 rm -r tree/b tree/c
 compiled new
-carries ' b c' '' 'down b\ndown c\n' ' a d e' "$all"
+carries ' b c' '' 'down b\ndown c\n' ' a d e' ''
 old_tree
 rm -r tree/b
 service c a
 compiled new
-carries ' b c' ' c' 'down b\ndown c\nup c\n' ' a c d e' 'at 1 of 2\n0 +c'
+carries ' b c' ' c' 'down b\ndown c\nup c\n' ' a c d e' ''
 old_tree
 rm -r tree/a tree/b tree/c tree/d tree/e
 compiled new
-carries ' a b c d e' '' 'down a\ndown b\ndown c\ndown d\ndown e\n' '' "$all"
+carries ' a b c d e' '' 'down a\ndown b\ndown c\ndown d\ndown e\n' '' ''
 
 # Another service takes a name's place: it is the name that counts.
 old_tree
 rm -r tree/a
 service b
 compiled new
-carries ' a b c' ' b c' 'down a\ndown b\ndown c\nup b\nup c\n' ' b c d e' "$back"
+carries ' a b c' ' b c' 'down a\ndown b\ndown c\nup b\nup c\n' ' b c d e' ''
 
 # A service becomes a bundle; a bundle that was added to the session is gone.
 old_tree
@@ -183,7 +196,7 @@ mkdir tree/c
 echo bundle > tree/c/type
 echo b > tree/c/contents
 compiled new
-carries ' c' '' 'down c\n' ' a b d e' "$all"
+carries ' c' '' 'down c\n' ' a b d e' ''
 fresh
 printf 'add mine a\n' | "$program" session -b old -x none -l live > out
 update 0 'lowered c\nok\nok\n' '' -x none
@@ -199,7 +212,7 @@ touch tree/a/flag-essential
 compiled old
 service a f
 compiled new
-carries ' a b c' ' a b c f' 'down a\ndown b\ndown c\nup a\nup b\nup c\nup f\n' ' a b c d e f' 'at 1 of 2\n0 +a +b +c +f'
+carries ' a b c' ' a b c f' 'down a\ndown b\ndown c\nup a\nup b\nup c\nup f\n' ' a b c d e f' ''
 old_tree
 compiled old
 
@@ -240,7 +253,7 @@ chmod 755 controller
 fresh
 update 0 'lowered b c\nok\nraised b c\nok\n' '' -c ./controller
 moved 'down b\ndown c\nup b, by the controller\nup c\n'
-kept ' a b c d e' "$back"
+kept ' a b c d e' "$(entered ' b c' ' b c' '')"
 cp live live.longrun
 # Where no controller is named neither step is begun: the longrun would come up by the new database, or go down by the
 # old one. -n and -x do without.
@@ -263,7 +276,7 @@ expect 1 '' 'undorc: Unknown z\n' '' update -b new -B old -l live -R z
 fresh
 update 2 'lowered b c\nok\nfailed b\nblocked c\nok\n' '' -c false
 moved 'down b\ndown c\n'
-kept ' a d e' "$all"
+kept ' a d e' 'at 3 of 4\n0 +a +b +c +d +e\n1 -b -c ..\n2 update ..'
 
 # Nothing is live: in a file that is not there, and in one of a state of nothing.
 rm -f nothing
@@ -289,12 +302,12 @@ judge 'the bound is carried over' 0
 old_tree
 compiled new
 : > none
-carries ' b c' ' b c' "$lines" ' a b c d e' "$back" -R b
-carries ' b c e' ' b c e' 'down b\ndown c\ndown e\nup b\nup c\nup e\n' ' a b c d e' 'at 1 of 2\n0 +b +c +e' -R e -R b
-carries '' '' '' ' a b c d e' "$all" -R f
+carries ' b c' ' b c' "$lines" ' a b c d e' '' -R b
+carries ' b c e' ' b c e' 'down b\ndown c\ndown e\nup b\nup c\nup e\n' ' a b c d e' '' -R e -R b
+carries '' '' '' ' a b c d e' '' -R f
 printf 'b restart\n' > renames
-carries ' b c' ' b c' "$lines" ' a b c d e' "$back" -f renames
-carries '' '' '' ' a b c d e' "$all" -f none
+carries ' b c' ' b c' "$lines" ' a b c d e' '' -f renames
+carries '' '' '' ' a b c d e' '' -f none
 
 # A service goes on by another name: nothing moves, what needs it neither, and an undo or a change knows the new name.
 # renamed: the tree in which `b` is called `x`
@@ -308,49 +321,49 @@ renamed() {
 renamed
 compiled new
 printf '# the renames\n\n  b\t->  x  \n' > renames
-carries '' '' '' ' a c d e x' "$all" -f renames
+carries '' '' '' ' a c d e x' ' b>x' -f renames
 expect 0 'lowered c x\nok\n' '' '' change -D x -b new -l live
 words='change -D behind a rename'
 moved 'down c\ndown x\n'
 # Without the file it is another service.
-carries ' b c' ' c x' 'down b\ndown c\nup c\nup x\n' ' a c d e x' 'at 1 of 2\n0 +c +x'
+carries ' b c' ' c x' 'down b\ndown c\nup c\nup x\n' ' a c d e x' ''
 # It is renamed and restarted; its scripts on the way down are those of the old database.
 printf 'b -> x restart\n' > renames
-carries ' b c' ' c x' 'down b\ndown c\nup c\nup x\n' ' a c d e x' 'at 1 of 2\n0 +c +x' -f renames
+carries ' b c' ' c x' 'down b\ndown c\nup c\nup x\n' ' a c d e x' '' -f renames
 # Two services exchange their names, and a name passes on to another one.
 printf 'd -> a\na -> d\n' > renames
 old_tree
 service b d
 service e a
 compiled new
-carries '' '' '' ' a b c d e' "$all" -f renames
+carries '' '' '' ' a b c d e' ' d>a a>d' -f renames
 rm -r tree
 service a
 service b a
 service c b
 compiled new
 printf 'd -> a\n' > renames
-carries ' a b c e' ' b c' 'down a\ndown b\ndown c\ndown e\nup b\nup c\n' ' a b c' 'at 1 of 2\n0 +b +c' -f renames
+carries ' a b c e' ' b c' 'down a\ndown b\ndown c\ndown e\nup b\nup c\n' ' a b c' ' d>a' -f renames
 # What was down comes up under its new name only where it is needed.
 old_tree
 mv tree/f tree/g
 compiled new
 printf 'f -> g\n' > renames
-carries '' '' '' ' a b c d e' "$all" -f renames
+carries '' '' '' ' a b c d e' ' f>g' -f renames
 # A renamed service is altered, or what needs it needs another one besides.
 renamed
 service x d
 compiled new
 printf 'b -> x\n' > renames
-carries ' b c' ' c x' 'down b\ndown c\nup c\nup x\n' ' a c d e x' 'at 1 of 2\n0 +c +x' -f renames
+carries ' b c' ' c x' 'down b\ndown c\nup c\nup x\n' ' a c d e x' ' b>x' -f renames
 renamed
 service c x d
 compiled new
-carries ' c' ' c' 'down c\nup c\n' ' a c d e x' 'at 1 of 2\n0 +c' -f renames
+carries ' c' ' c' 'down c\nup c\n' ' a c d e x' ' b>x' -f renames
 renamed
 service c
 compiled new
-carries ' c' ' c' 'down c\nup c\n' ' a c d e x' 'at 1 of 2\n0 +c' -f renames
+carries ' c' ' c' 'down c\nup c\n' ' a c d e x' ' b>x' -f renames
 
 # Why each service moves: on standard error, and not with -q.
 old_tree
@@ -419,15 +432,15 @@ fresh
 update 2 'lowered c e\nfailed b\nok\n' '' -x down:b
 expect 0 'live a b d\nok\n' '' '' live -b old -l live
 expect 0 'live a b d\nok\n' "$(unused_base new)\n" '' live -b new -l live
-expect 0 'at 2 of 3\n0 +a +b +c +d +e\n1 -c -e\nok\n' '' '' journal -b old -l live
+expect 0 'at 2 of 3\n0 +a +b +c +d +e\n1 -c -e ..\nok\n' '' '' journal -b old -l live
 # The same command again takes back what stands, and so does an undo.
 cp live live.half
 update 0 'raised c e\nok\nlowered b c e\nok\nraised b c\nok\n' '' -x none
-kept ' a b c d' "$back"
+kept ' a b c d' "$(entered ' b c e' ' b c' '')"
 cp live.half live
 expect 0 'raised c e\nok\n' '' '' undo -b old -x none -l live
 update 0 'lowered b c e\nok\nraised b c\nok\n' '' -x none
-kept ' a b c d' "$back"
+kept ' a b c d' "$(entered ' b c e' ' b c' '')"
 fresh
 update 2 'lowered e\nfailed c\nblocked b\nok\n' '' -x down:c
 expect 0 'live a b c d\nok\n' '' '' live -b old -l live
@@ -438,11 +451,11 @@ expect 0 'live a b c d e\nok\n' '' '' live -b old -l live
 # What fails on its way up is not up in the new database, whose journal goes on from there.
 fresh
 update 2 'lowered b c e\nok\nfailed b\nblocked c\nok\n' '' -x up:b
-kept ' a d' "$all"
+kept ' a d' 'at 3 of 4\n0 +a +b +c +d +e\n1 -b -c -e ..\n2 update ..'
 expect 0 'raised b c\nok\n' 'undorc: an update or a restart was not finished: undorc undo -b new -l live takes it back\n' '' change c -b new -x none -l live
 fresh
 update 2 'lowered b c e\nok\nraised b\nfailed c\nok\n' '' -x up:c
-kept ' a b d' 'at 1 of 2\n0 +b'
+kept ' a b d' 'at 4 of 5\n0 +a +b +c +d +e\n1 -b -c -e ..\n2 update ..\n3 +b ..'
 expect 0 'lowered b\nok\nraised b c e\nok\n' '' '' undo -b new -x none -l live
 # A restart takes none of it back.
 fresh
@@ -451,7 +464,7 @@ expect 0 'lowered b\nok\nraised b\nok\n' 'undorc: an update or a restart was not
 expect 0 'lowered b\nok\nraised b c e\nok\n' '' '' undo -b new -x none -l live
 fresh
 update 2 'lowered b c e\nok\nraised b\nfailed c\nok\n' '' -x up:c,down:f,down:a,up:a
-kept ' a b d' 'at 1 of 2\n0 +b'
+kept ' a b d' 'at 4 of 5\n0 +a +b +c +d +e\n1 -b -c -e ..\n2 update ..\n3 +b ..'
 
 # What is refused: nothing is moved, and nothing written.
 refused() {
@@ -526,7 +539,7 @@ expect 0 'lower b c e\nok\nraise b c\nok\n' "$told" '' update -B new -n
 expect 0 'lowered b c e\nok\nraised b c\nok\n' '' '' update -B new -x none -l live
 wrong update -B new -x none
 unset UNDORC_DB UNDORC_LIVE
-kept ' a b c d' "$back"
+kept ' a b c d' "$(entered ' b c e' ' b c' '')"
 
 # Each transition is told with -v, in the order of both steps.
 fresh

@@ -22,7 +22,8 @@ use Rattle.rc_launch.specs.Loading.{bytes_of, session_in}
 use Rattle.rc_launch.specs.Mending.{MendsFrom}
 use Rattle.rc_launch.specs.Readable.{IsOpenedRead}
 use Rattle.rc_launch.specs.TwoSteps.{IsKeptUpdate, RestartsFrom, UpdatesFrom}
-use Rattle.rc_launch.specs.Ways.{AsksBack, AsksMend, AsksRestart, AsksUpdate, AsksWay}
+use Rattle.rc_launch.specs.Ways.{AsksBack, AsksJournal, AsksMend, AsksRestart, AsksUpdate}
+use Rattle.rc_launch.specs.Ways.{AsksWay}
 use Rattle.rc_launch.proofs.AloneLemmas.{served_there}
 use Rattle.rc_launch.proofs.Noting.{some_mapped}
 use Rattle.rc_launch.proofs.carrying_out.carry_out.Goals as goal
@@ -64,6 +65,9 @@ returns-in-Way g c =
       mends = λ request asks named done. absurd (c.in-Way.ensures.mend request
           (subst (λ (command : SessionCommand). AsksMend command request) (sym c.command.ensures)
           asks));
+      journal = λ asks was held. absurd (c.in-Way.ensures.journal
+          (subst AsksJournal (sym c.command.ensures) asks) (c.is_some-is_history.ensures
+          ∙ some_mapped _ c.history.result was (c.history.ensures ∙ held)));
       served = λ served. absurd (c.in-Way.ensures.served (served_there _ c.history.result _ _ _ _
           c.history.ensures c.is_some-is_history.ensures c.command.ensures served));
     }
@@ -107,6 +111,9 @@ returns-in-Back g c =
       mends = λ request asks named done. absurd (c.in-Back.ensures.mend request
           (subst (λ (command : SessionCommand). AsksMend command request) (sym c.command.ensures)
           asks));
+      journal = λ asks was held. absurd (c.in-Back.ensures.journal
+          (subst AsksJournal (sym c.command.ensures) asks) (c.is_some-is_history.ensures
+          ∙ some_mapped _ c.history.result was (c.history.ensures ∙ held)));
       served = λ served. absurd (c.in-Back.ensures.served (served_there _ c.history.result _ _ _ _
           c.history.ensures c.is_some-is_history.ensures c.command.ensures served));
     }
@@ -194,5 +201,52 @@ returns-in-Alone-clause-updates g c =
 pub returns-in-Alone-clause-mends : goal.returns-in-Alone-clause-mends
 returns-in-Alone-clause-mends g c =
     λ request asks named done. absurd (c.in-Alone.ensures.mend request
+    (subst (λ (command : SessionCommand). AsksMend command request) (sym c.command.ensures)
+    asks))
+
+pub returns-in-Shown-clause-journal : goal.returns-in-Shown-clause-journal
+returns-in-Shown-clause-journal g c =
+    λ asks was held. absurd (c.in-Shown.ensures.journal
+    (subst AsksJournal (sym c.command.ensures) asks) (c.is_some-is_history.ensures
+    ∙ some_mapped _ c.history.result was (c.history.ensures ∙ held)))
+
+pub returns-in-Update-clause-journal : goal.returns-in-Update-clause-journal
+returns-in-Update-clause-journal g c =
+    λ asks was held. absurd (c.in-Update.ensures.journal
+    (subst AsksJournal (sym c.command.ensures) asks) (c.is_some-is_history.ensures
+    ∙ some_mapped _ c.history.result was (c.history.ensures ∙ held)))
+
+pub returns-in-Restart-clause-journal : goal.returns-in-Restart-clause-journal
+returns-in-Restart-clause-journal g c =
+    λ asks was held. absurd (c.in-Restart.ensures.journal
+    (subst AsksJournal (sym c.command.ensures) asks) (c.is_some-is_history.ensures
+    ∙ some_mapped _ c.history.result was (c.history.ensures ∙ held)))
+
+pub returns-in-Mend-clause-journal : goal.returns-in-Mend-clause-journal
+returns-in-Mend-clause-journal g c =
+    λ asks was held. absurd (c.in-Mend.ensures.journal
+    (subst AsksJournal (sym c.command.ensures) asks) (c.is_some-is_history.ensures
+    ∙ some_mapped _ c.history.result was (c.history.ensures ∙ held)))
+
+pub returns-in-Alone-clause-journal : goal.returns-in-Alone-clause-journal
+returns-in-Alone-clause-journal g c =
+    λ asks was held. absurd (c.in-Alone.ensures.journal
+    (subst AsksJournal (sym c.command.ensures) asks) (c.is_some-is_history.ensures
+    ∙ some_mapped _ c.history.result was (c.history.ensures ∙ held)))
+
+pub returns-in-Journal-clause-served : goal.returns-in-Journal-clause-served
+returns-in-Journal-clause-served g c =
+    λ served. absurd (c.in-Journal.ensures.served (served_there _ c.history.result _ _ _ _
+    c.history.ensures c.is_some-is_history.ensures c.command.ensures served))
+
+pub returns-in-Journal-clause-updates : goal.returns-in-Journal-clause-updates
+returns-in-Journal-clause-updates g c =
+    λ request asks named done. absurd (c.in-Journal.ensures.update request
+    (subst (λ (command : SessionCommand). AsksUpdate command request) (sym c.command.ensures)
+    asks))
+
+pub returns-in-Journal-clause-mends : goal.returns-in-Journal-clause-mends
+returns-in-Journal-clause-mends g c =
+    λ request asks named done. absurd (c.in-Journal.ensures.mend request
     (subst (λ (command : SessionCommand). AsksMend command request) (sym c.command.ensures)
     asks))

@@ -13,4 +13,4 @@ returns-in-Ok-clause-read g c bytes held none =
     bytes.now present.database.now present.session c.session-in-Ok.ensures
     (subst (λ (b : Bor (List ℕ)). IsPresent b.now present.database.now present.session.now)
     (same_Some c.in-Some.history bytes (sym c.in-Some.is ∙ held)) c.in-Ok.ensures.ok)
-    (c.unread_texts-in-Ok.ensures none)
+    (c.unread_texts-in-Ok.ensures.read none)
