@@ -100,7 +100,7 @@ fn close(rt: &HostRuntime, opened: &Opened<'_>) {
 /// Enters a command that altered the file of the session into its log.
 fn enter(rt: &HostRuntime, opened: &Opened<'_>, status: u8) {
     if let (true, Some(path)) = (opened.moves(), opened.session().live) {
-        history::enter(rt, path, opened.live().bytes(), status);
+        history::enter(rt, path, opened.live(), status);
     }
 }
 

@@ -13,15 +13,17 @@ use std::env;
 use std::fs::File;
 use std::io::{self, ErrorKind, Write};
 
-/// Appends a line for this command, which ends with this status, if the text of the session has
-/// changed and there is to be a log. Warns if the line can't be written.
-pub fn enter(rt: &HostRuntime, path: &str, before: Option<&[u8]>, status: u8) {
+/// Appends a line for this command, which ends with this status, if it has changed what was found
+/// in the file of the session and there is to be a log. Warns if the line can't be written.
+pub fn enter(rt: &HostRuntime, path: &str, before: &LiveText<'_>, status: u8) {
     let Ok(live) = LiveText::read(rt, Some(path)) else {
         return;
     };
     match live.bytes() {
-        Some(after) if before != Some(after) => {
-            if let Err(error) = enter_at(rt, path, status, before, after) {
+        Some(after) if has_changed(before, &live) => {
+            let at = live.number(rt.alloc()).unwrap_or(current_of(after));
+            let ended = Ended { at, status };
+            if let Err(error) = enter_at(rt, path, ended, before.bytes(), after) {
                 warn!(Messages(rt); target: MESSAGE,
                     "{path}.log: {error}: this command is not entered there");
             }
@@ -31,18 +33,33 @@ pub fn enter(rt: &HostRuntime, path: &str, before: Option<&[u8]>, status: u8) {
     drop(live);
 }
 
+/// Returns true if a history has changed, or the text of a session if there was no history.
+fn has_changed(before: &LiveText<'_>, after: &LiveText<'_>) -> bool {
+    match (before.history(), after.history()) {
+        (Some(was), Some(is)) => was != is,
+        _ => before.bytes() != after.bytes(),
+    }
+}
+
+/// How a command has ended: the number of the state that it led to, and its status.
+#[derive(Clone, Copy)]
+struct Ended {
+    at: usize,
+    status: u8,
+}
+
 /// Appends the lines of a command that leads from one text of the session to another. If the log
 /// does not exist, creates it for the file of the environment alone.
 fn enter_at(
     rt: &HostRuntime,
     path: &str,
-    status: u8,
+    ended: Ended,
     before: Option<&[u8]>,
     after: &[u8],
 ) -> io::Result<()> {
     match command_log::open(rt, path, is_usual(rt, path))? {
         Some(file) => {
-            let entered = append(rt, &file, status, before, after);
+            let entered = append(rt, &file, ended, before, after);
             drop(file);
             entered
         }
@@ -66,12 +83,12 @@ fn is_usual(rt: &HostRuntime, path: &str) -> bool {
 fn append(
     rt: &HostRuntime,
     file: &File,
-    status: u8,
+    ended: Ended,
     before: Option<&[u8]>,
     after: &[u8],
 ) -> io::Result<()> {
     let words = words(rt)?;
-    let line = line_of(rt, &words, status, current_of(after));
+    let line = line_of(rt, &words, ended);
     drop(words);
     let line = line?;
     let lines = with_moves(line, live_in(before.unwrap_or(&[])), live_in(after))?;
@@ -157,7 +174,8 @@ fn write_whole(file: &File, bytes: &[u8]) -> io::Result<()> {
 
 /// Returns the line of a command: the state, the time, the user, the status, and the words of the
 /// command.
-fn line_of(rt: &HostRuntime, words: &[String], status: u8, at: usize) -> Result<String, NoMem> {
+fn line_of(rt: &HostRuntime, words: &[String], ended: Ended) -> Result<String, NoMem> {
+    let Ended { at, status } = ended;
     let now = now_of(rt);
     let user = libc::getuid();
     let mut line = format!(in rt.alloc(); "{at} {now} uid {user} status {status}:")?;

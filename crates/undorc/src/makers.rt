@@ -9,6 +9,8 @@ use std::io::{self, Write};
 enum Effect {
     /// It makes the entry in front of the state that it leads to.
     Makes,
+    /// It goes on to another database, and makes the entries up to the state that it leads to.
+    Carries,
     /// It goes to another state.
     Goes,
     /// It drops the entries behind the current state.
@@ -72,6 +74,7 @@ impl<'a> Makers<'a> {
     fn enter(&mut self, command: Logged<'a>) -> Result<(), NoMem> {
         match effect_of(command.about) {
             Effect::Makes => self.make(command)?,
+            Effect::Carries => self.carry(command)?,
             Effect::Goes => {}
             Effect::Drops => self.made.truncate(command.state),
             Effect::Forgets => self.made.clear(),
@@ -94,6 +97,20 @@ impl<'a> Makers<'a> {
         }
         self.fit(entry)?;
         self.made.push(Some(command))?;
+        Ok(())
+    }
+
+    /// Enters a command that made the entries from the current state on. If there are none, the
+    /// journal was cut, and nothing is known of the entries before.
+    fn carry(&mut self, command: Logged<'a>) -> Result<(), NoMem> {
+        if command.state <= self.state {
+            self.made.clear();
+            return Ok(());
+        }
+        self.fit(self.state)?;
+        for _ in self.state..command.state {
+            self.made.push(Some(command))?;
+        }
         Ok(())
     }
 
@@ -137,13 +154,15 @@ impl<'a> Makers<'a> {
     }
 
     /// Returns the command that made the entry of a line of a journal, if it is known and moved
-    /// just that.
+    /// just that. An update made the border that it crossed, and is shown there alone.
     fn maker_of(&self, line: &[u8]) -> Option<Logged<'a>> {
         let (entry, moves) = numbered(line)?;
-        match self.made.get(entry) {
-            Some(Some(command)) if are_same(moves, command.moves) => Some(*command),
-            _ => None,
-        }
+        let command = (*self.made.get(entry)?)?;
+        let is_maker = match effect_of(command.about) {
+            Effect::Carries => moves.split(|byte| *byte == b' ').next() == Some(b"update"),
+            _ => are_same(moves, command.moves),
+        };
+        if is_maker { Some(command) } else { None }
     }
 }
 
@@ -176,6 +195,7 @@ fn effect_of(about: &[u8]) -> Effect {
     };
     match word {
         "change" | "start" | "stop" | "add" | "delete" => Effect::Makes,
+        "update" => Effect::Carries,
         "undo" | "redo" => Effect::Goes,
         "restart" | "check" => Effect::Drops,
         _ => Effect::Forgets,

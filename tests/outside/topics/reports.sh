@@ -204,6 +204,14 @@ for word in change stop start stop; do
 done
 journal_shows 'a full journal drops its first entry' three \
     'at 2 of 3\n0 +good\n  status 0: start good\n1 -good\n  status 0: stop good\nok\n'
+: > five.log
+for words in 'change good' 'update -B scripts -R good' 'stop good' undo; do
+    # The words are separated by spaces.
+    # shellcheck disable=SC2086
+    "$program" $words -b scripts -l five > setup
+done
+journal_shows 'an update stands at its border' five \
+    'at 4 of 6\n0 +good\n  status 0: change good\n1 -good ..\n2 update ..\n  status 0: update -B scripts -R good\n3 +good\n4 -good\n  status 0: stop good\nok\n'
 rm three*
 if [ -w /dev/full ]; then
     : > out
