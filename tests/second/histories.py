@@ -89,11 +89,16 @@ class History:
         self.at = 0
         self.now().renames = []
 
-    def do(self, command, carry_out):
-        """A line of the present session: its answer. What lies beyond a state that goes, goes with it."""
+    def do(self, command, carry_out, is_session=False):
+        """A line of the present session: its answer. What lies beyond a state that goes, goes with it. A state that comes
+        back at the same end has not gone, where it is a line of `session`."""
         now, line = self.now(), self.now().line
         states, at = list(line.states), line.cursor
         said = do(now.base, line, command, carry_out)
+        if is_session and line.states[0].same(states[0]):
+            line.states[0] = states[0]
+        if is_session and line.states[-1].same(states[-1]):
+            line.states[-1] = states[-1]
         if line.states[0] is not states[0]:
             self.make_oldest()
             now.is_first_passed = False

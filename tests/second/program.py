@@ -97,7 +97,7 @@ def session(case, answer):
             continue
         try:
             command = read_command(words, LOOKS)
-            said = history.do(command, fail_by_list(case.failing))
+            said = history.do(command, fail_by_list(case.failing), is_session=True)
         except Refusal as refusal:
             said = b"refused " + refusal.text + b"\n"
         answer.out += said
