@@ -545,7 +545,10 @@ if command -v strace > /dev/null && command -v flock > /dev/null; then
     ASAN_OPTIONS=detect_leaks=0 strace -f -o /dev/null -P live.run -e inject=openat:delay_enter=400000 \
         "$program" change -w 1 b -b base -l live < /dev/null > out 2> err &
     called=$!
-    until [ -s live.lock ] && ! flock -n live.lock true; do sleep 0.02; done
+    for turn in $(seq 500); do
+        if [ -s live.lock ] && ! flock -n live.lock true; then break; fi
+        sleep 0.02
+    done
     expect 0 '' '' '' cancel -l live
     wait "$called" || echo $? > status
     "$program" live -b base -l live > out
