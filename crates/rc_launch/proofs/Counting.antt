@@ -1,10 +1,12 @@
 -- The states of generations are counted, one generation after the other.
-use Rattle.std.proofs.Common.{◌≡◌, ◌∙◌, ◌<◌, ◌+◌, ℕ, zero, suc, Bool, true, false, List, [], ◌∷◌}
-use Rattle.std.proofs.Common.{◌++◌, length, replicate, refl, sym, ap, subst, arith, append_assoc}
-use Rattle.std.proofs.lemmas.List.{append-nil, length-append, length-replicate}
+use Rattle.std.proofs.Common.{◌≡◌, ◌∙◌, ◌<◌, ◌+◌, ℕ, zero, suc, Bool, false, List, [], ◌∷◌}
+use Rattle.std.proofs.Common.{◌++◌, Some, length, replicate, refl, sym, ap, subst, arith, get_or}
+use Rattle.std.proofs.Common.{append_assoc, slice_get, take}
+use Rattle.std.proofs.lemmas.List.{append-nil, length-append, length-replicate, take_more}
+use Rattle.std.proofs.lemmas.Option.{slice_get_read}
 use Rattle.rc_livetext.specs.Text.{LiveText}
 use Rattle.rc_historytext.specs.States.{IsSession}
-use Rattle.rc_historytext.specs.Text.{GenerationText}
+use Rattle.rc_historytext.specs.Text.{GenerationText, HistoryText}
 use Rattle.rc_launch.specs.Numbers.{SaySessions, marks_in, marks_of, number_at, states_behind}
 
 -- a generation has a mark for each state
@@ -108,3 +110,19 @@ counted_here gs g s present at number marks more so is counts grows here = recor
       ∙ sym (number_last gs so.sessions s so.say)
       ∙ ap (λ (n : ℕ). number_at n (so.sessions ++ s ∷ [])) (sym here);
 }
+
+-- the generation at a place of a history, by its view, is the next one after those before it
+pub next_one : (form view : HistoryText) (i : ℕ) (g : GenerationText) → view ≡ form
+    → i < length view.generations → g ≡ get_or view.generations i g
+    → (take (i + 1) form.generations ≡ take i form.generations ++ g ∷ [])
+    × (slice_get form.generations i ≡ Some g)
+next_one form view i g same within at =
+    let seen = ap (λ (t : HistoryText). t.generations) same in
+    let low : i < length form.generations = subst (λ (gs : List GenerationText). i < length gs) seen
+    within in
+    let here : g ≡ get_or form.generations i g =
+    at ∙ ap (λ (gs : List GenerationText). get_or gs i g) seen in (
+      take_more form.generations i g low
+          ∙ ap (λ (x : GenerationText). take i form.generations ++ x ∷ []) (sym here),
+      slice_get_read form.generations (length form.generations) i g refl low here,
+    )

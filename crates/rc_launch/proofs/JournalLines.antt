@@ -1,5 +1,5 @@
 -- The lines of a journal: the end of the last one, and those of one generation more.
-use Rattle.std.proofs.Common.{◌≡◌, ◌∙◌, ◌<◌, ◌≤◌, ◌+◌, ◌-◌, ℕ, zero, suc, Bool, true, false, List}
+use Rattle.std.proofs.Common.{◌≡◌, ◌∙◌, ◌<◌, ◌+◌, ℕ, suc, Bool, true, false, List}
 use Rattle.std.proofs.Common.{[], ◌∷◌, ◌++◌, Option, Some, None, length, refl, sym, ap, subst}
 use Rattle.std.proofs.Common.{append_assoc, arith, codes}
 use Rattle.std.proofs.lemmas.List.{append-nil}
@@ -15,8 +15,7 @@ use Rattle.rc_dbtext.specs.Spelling.{spelling as database_text}
 use Rattle.rc_livetext.specs.Spelling.{Spells as SpellsLine}
 use Rattle.rc_render.specs.JournalText.{AreEntryLines}
 use Rattle.rc_historytext.specs.Text.{GenerationText}
-use Rattle.rc_launch.specs.HistoryJournal.{AreLines, AreLinesOf, ArePassing, border_line}
-use Rattle.rc_launch.specs.HistoryJournal.{border_text, passes_first}
+use Rattle.rc_launch.specs.HistoryJournal.{AreLines, AreLinesOf, ArePassing}
 use Rattle.rc_launch.specs.Numbers.{Told}
 
 -- a text ends in a newline
@@ -117,18 +116,6 @@ are_passing false lines text front passed ends is = absurd (let bad : false ≡ 
 pub not_passing : (b : Bool) (lines : List ℕ) → b ≡ false → ArePassing b lines lines
 not_passing true lines stays = absurd (let bad : true ≡ false = stays in cc)
 not_passing false lines stays = refl
-
--- the border in front of a generation: there is one where a state comes before it
-pub border_some : (first : ℕ) (g : GenerationText) (count : ℕ) → 0 < first
-    → border_line (first - 1) g.renames (passes_first g count) ≡ border_text first g count
-border_some zero g count some = absurd (omega (arith, some))
-border_some (suc n) g count some =
-    ap (λ (k : ℕ). border_line k g.renames (passes_first g count)) (omega arith)
-
-pub border_none : (first : ℕ) (g : GenerationText) (count : ℕ) → first ≤ 0
-    → border_text first g count ≡ []
-border_none zero g count none = refl
-border_none (suc n) g count none = absurd (omega (arith, none))
 
 -- the end of the last line of a text that grew by lines
 pub ends_whole : (after front old border lines start : List ℕ) → after ≡ front ++ lines

@@ -236,15 +236,30 @@ fn add_lines(
     let Some(next) = first.checked_add(count) else {
         return Err(AllocError);
     };
-    if first > 0 {
-        let border = border_of(alloc, first - 1, generation, count)?;
-        text.extend_from_slice(&border)?;
-    }
+    add_border(text, alloc, generation, first, count)?;
     add_entries(text, alloc, db, line, first)?;
     if generation.last_passed && 1 < count {
         pass_last(text)?;
     }
     Ok(next)
+}
+
+// Appends the border in front of a generation of so many states, if there is one.
+fn add_border(
+    text: &mut Vec<u8>,
+    alloc: Global,
+    generation: &GenerationForm<'_>,
+    first: usize,
+    count: usize,
+) -> Result<(), NoMem>
+    ensures { OnOk result (text.new.items
+        ≡ text.old.items ++ border_text first generation.now count) }
+{
+    if first == 0 {
+        return Ok(());
+    }
+    let border = border_of(alloc, first - 1, generation, count)?;
+    text.extend_from_slice(&border)
 }
 
 // Returns the line of the border in front of a generation of so many states.

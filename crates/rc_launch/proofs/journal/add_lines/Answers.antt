@@ -1,20 +1,15 @@
-use Rattle.std.proofs.Common.{◌≡◌, ◌∙◌, ◌<◌, ◌+◌, ◌-◌, ◌&&◌, ◌∷◌, ◌++◌, [], ℕ, List, Bool, true}
+use Rattle.std.proofs.Common.{◌≡◌, ◌∙◌, ◌<◌, ◌+◌, ◌&&◌, ◌++◌, ℕ, Bool, true}
 use Rattle.std.proofs.Common.{ap, arith, codes, false, length, nat_lt, refl, sym}
 use Rattle.std.proofs.lemmas.Bool.{lt-ltb, le-ltb}
-use Rattle.std.proofs.lemmas.List.{append-nil}
 use Rattle.rc_model.specs.Line.{states}
 use Rattle.rc_historytext.specs.Text.{GenerationText}
-use Rattle.rc_launch.specs.HistoryJournal.{border_line, border_text, passes_first}
-use Rattle.rc_launch.proofs.JournalLines.{are_passing, border_none, border_some, ends_whole}
-use Rattle.rc_launch.proofs.JournalLines.{grows_by, in_row, lines_ended, not_passing}
+use Rattle.rc_launch.specs.HistoryJournal.{border_text}
+use Rattle.rc_launch.proofs.JournalLines.{are_passing, ends_whole, grows_by, in_row}
+use Rattle.rc_launch.proofs.JournalLines.{lines_ended, not_passing}
 use Rattle.rc_launch.proofs.journal.add_lines.Goals as goal
-use Rattle.rc_launch.proofs.journal.add_lines.Goals.{else-first-gt0}
 use Rattle.rc_launch.proofs.journal.add_lines.Goals.{else-generation-via-else-generation}
 use Rattle.rc_launch.proofs.journal.add_lines.Goals.{
   else-generation-via-then-generation+else-count-gt1,
-}
-use Rattle.rc_launch.proofs.journal.add_lines.Goals.{
-  then-first-gt0+in_ok-border+in_ok-extend_from_slice,
 }
 
 none_both : (a : Bool) {b : Bool} → b ≡ false → (a && b) ≡ false
@@ -28,17 +23,8 @@ returns-in_ok-pass_last c =
     let first = c.args.first in
     let count = length (states c.args.line.now.line) in
     let border = border_text first g count in
-    let bordered : c.if-first-gt0.text.items ≡ old ++ border = elim c.if-first-gt0.branch [
-      | then-first-gt0+in_ok-border+in_ok-extend_from_slice w ↦
-          rw w.text-is (w.in_ok-extend_from_slice.ensures.items
-          ∙ ap (λ (t : List ℕ). old ++ t) (w.deref.ensures.value ∙ w.in_ok-border.ensures
-          ∙ ap (λ (k : ℕ). border_line (first - 1) g.renames (passes_first g k))
-          c.states-count.ensures.count
-          ∙ border_some first g count w.if-first-gt0.true))
-      | else-first-gt0 w ↦
-          rw w.text-is (sym (ap (λ (t : List ℕ). old ++ t)
-          (border_none first g count w.if-first-gt0.false) ∙ append-nil old))
-    ] in
+    let bordered = c.in_ok-add_border.ensures
+    ∙ ap (λ (k : ℕ). old ++ border_text first g k) c.states-count.ensures.count in
     let (lines, are, grows) = c.in_ok-add_entries.ensures in
     let next : c.in-Some.next ≡ first + count =
     c.in-Some.ensures.1 ∙ ap (λ (k : ℕ). first + k) c.states-count.ensures.count in
@@ -60,7 +46,7 @@ returns-in_ok-pass_last c =
         are_passing (g.last_passed && nat_lt 1 count) lines (start ++ codes " ..\n") start passed
             ends refl,
         c.in_ok-pass_last.ensures ((old ++ border) ++ start)
-            (ends_whole c.add_entries.new.text.items c.if-first-gt0.text.items old border lines
+            (ends_whole c.add_entries.new.text.items c.add_border.new.text.items old border lines
             start grows bordered ends)
             ∙ in_row old border start (codes " ..\n"),
       ),
@@ -73,17 +59,8 @@ returns-else-generation c =
     let first = c.args.first in
     let count = length (states c.args.line.now.line) in
     let border = border_text first g count in
-    let bordered : c.if-first-gt0.text.items ≡ old ++ border = elim c.if-first-gt0.branch [
-      | then-first-gt0+in_ok-border+in_ok-extend_from_slice w ↦
-          rw w.text-is (w.in_ok-extend_from_slice.ensures.items
-          ∙ ap (λ (t : List ℕ). old ++ t) (w.deref.ensures.value ∙ w.in_ok-border.ensures
-          ∙ ap (λ (k : ℕ). border_line (first - 1) g.renames (passes_first g k))
-          c.states-count.ensures.count
-          ∙ border_some first g count w.if-first-gt0.true))
-      | else-first-gt0 w ↦
-          rw w.text-is (sym (ap (λ (t : List ℕ). old ++ t)
-          (border_none first g count w.if-first-gt0.false) ∙ append-nil old))
-    ] in
+    let bordered = c.in_ok-add_border.ensures
+    ∙ ap (λ (k : ℕ). old ++ border_text first g k) c.states-count.ensures.count in
     let (lines, are, grows) = c.in_ok-add_entries.ensures in
     let next : c.in-Some.next ≡ first + count =
     c.in-Some.ensures.1 ∙ ap (λ (k : ℕ). first + k) c.states-count.ensures.count in
@@ -106,7 +83,7 @@ returns-else-generation c =
         lines,
         are,
         not_passing (g.last_passed && nat_lt 1 count) lines stays,
-        grows_by c.add_entries.new.text.items c.if-first-gt0.text.items old border lines grows
+        grows_by c.add_entries.new.text.items c.add_border.new.text.items old border lines grows
             bordered,
       ),
     )
