@@ -1,11 +1,18 @@
 -- Which texts one line puts into a store, and which the two steps of an update.
-use Rattle.std.proofs.Common.{◌≡◌, ◌≢◌, ◌∙◌, ◌⊎◌, ℕ, List, Option, None, Some, Result, Ok, Err}
-use Rattle.std.proofs.Common.{OnOk, inl, inr, ap, refl, subst, sym}
+use Rattle.std.proofs.Common.{◌≡◌, ◌≢◌, ◌∙◌, ◌⊎◌, ◌∷◌, ℕ, Bool, List, [], Option, None, Some}
+use Rattle.std.proofs.Common.{Result, Ok, Err, IfErr, IfOk, OnOk, inl, inr, ap, false, refl, subst}
+use Rattle.std.proofs.Common.{Contains, sym, true}
 use Rattle.clap.specs.Words.{Text as Path}
 use Rattle.rc_graph.specs.declared.Way.{Way}
-use Rattle.rc_model.specs.Database.{Database}
+use Rattle.rc_model.specs.Database.{Bundles, Database, IsUnknownAt}
 use Rattle.rc_model.specs.Line.{Line}
+use Rattle.rc_model.specs.Session.{Change, IsOwnFault, Reported}
+use Rattle.rc_model.specs.declared.Mode.{Mode}
+use Rattle.rc_model.specs.declared.Mode.TheVariants.{DownAll, Up}
 use Rattle.rc_model.specs.declared.Outcome.{Outcome}
+use Rattle.rc_model.specs.declared.Refusal.{Refusal}
+use Rattle.rc_model.specs.declared.Refusal.TheVariants.{PruneNeedsUp, Unknown}
+use Rattle.rc_model.proofs.Members.{contains_at}
 use Rattle.rc_session.specs.Holding.{Holding}
 use Rattle.rc_script.specs.Says.{Saying, SaysNothing, SaysWrong, SaysStep, SaysDry, SaysLive}
 use Rattle.rc_script.specs.Says.{SaysBundles, SaysJournal, saying_of}
@@ -13,24 +20,26 @@ use Rattle.rc_livetext.specs.Spelling.{spelling}
 use Rattle.rc_serve.specs.declared.ending.Ending.{Ending}
 use Rattle.rc_serve.specs.declared.ending.Ending.TheVariants.{Done, Refused, Hindered}
 use Rattle.rc_serve.specs.declared.fault.ServeFault.{ServeFault}
-use Rattle.rc_serve.specs.Ending.{Ends, IsDoneAs}
+use Rattle.rc_serve.specs.Ending.{Ends, EndsIn, IsDoneAs, ending_by, ending_of}
 use Rattle.rc_serve.specs.Keeping.{IsKeptOnce}
 use Rattle.rc_args.specs.OnceAsked.{OnceSaying, Said, WantsDown, WantsDryRedo, WantsDryRestart}
 use Rattle.rc_args.specs.OnceAsked.{WantsDryUndo}
 use Rattle.rc_args.specs.UpdateAsked.{UpdateAsk}
+use Rattle.rc_update.specs.Carrying.{AreNamesOf}
 use Rattle.rc_cli.specs.declared.sessions.keeping.LiveFile.{LiveFile}
 use Rattle.rc_cli.specs.declared.sessions.keeping.TextKeeper.{TextKeeper}
 use Rattle.rc_cli.specs.declared.sessions.session_fault.SessionFault.{SessionFault}
 use Rattle.rc_cli.specs.declared.updating.Ahead.{Ahead}
 use Rattle.rc_cli.specs.Filing.{BeginsBy, file_named}
 use Rattle.rc_cli.specs.Once.{EndsOnce, IsCommand, ServedOnce, ServesOnce}
-use Rattle.rc_cli.specs.Putting.{IsLineDone, LeadsBoth, LeadsLine, Putting, PutsLine}
+use Rattle.rc_cli.specs.Putting.{IsLineDone, IsLineEnded, IsLineFault, IsLineHindered}
+use Rattle.rc_cli.specs.Putting.{IsLineSound, LeadsBoth, LeadsLine, LeadsSteps, Putting, PutsLine}
 use Rattle.rc_cli.specs.Serving.{session_on}
-use Rattle.rc_cli.specs.SessionFaults.{IsEndTold, IsTold}
-use Rattle.rc_cli.specs.Steps.{ended_by, ending_behind, lowering, raising}
+use Rattle.rc_cli.specs.SessionFaults.{IsEndTold, IsRefusal, IsTold, status_of}
+use Rattle.rc_cli.specs.Steps.{ended_by, ending_behind, lowering, raising, step_ask, step_by}
 use Rattle.rc_cli.specs.Storing.{store_of}
 use Rattle.rc_cli.specs.UpdateEnds.{LeadsOn}
-use Rattle.rc_cli.specs.Updating.{IsAhead, LeadsFrom}
+use Rattle.rc_cli.specs.Updating.{IsAhead, LeadsFrom, session_with}
 
 -- one line that is not kept leaves a store alone
 alone_puts : {S : Type 0} (Put : Putting S) (path : Option Path) (d : Database) (saying : Saying)
@@ -88,10 +97,27 @@ module _ {S : Type 0} (Put : Putting S) (d : Database) (here line : Line)
       command_puts path saying named command first once
   puts_command path saying (Err e) named command first once = tt
 
--- a line that ends as done is done
+-- how a command ends by its report
+reported_end : (failed blocked untried : List ℕ) → (ending_by failed blocked untried ≡ Done)
+    ⊎ (ending_by failed blocked untried ≡ Hindered)
+reported_end [] [] [] = inl refl
+reported_end [] [] (s ∷ more) = inr refl
+reported_end [] (s ∷ more) untried = inr refl
+reported_end (s ∷ more) blocked untried = inr refl
+
+never_refused : (told : Reported) → Refused ≡ ending_of told → ⊥
+never_refused told is = elim (reported_end told.failed told.blocked told.untried) [
+  | inl done ↦ let bad : Refused ≡ Done = is ∙ done in cc
+  | inr hindered ↦ let bad : Refused ≡ Hindered = is ∙ hindered in cc
+]
+
+-- one line that was served ended so
 module _ (workers : ℕ) (Answers : ℕ → Way → Outcome → Type 0) (Gives : ℕ → Type 0)
     (d : Database) (here : Line) (text : List ℕ) (new : Line) where
-  ends_done : (saying : Saying) → Ends (IsDoneAs workers Answers Gives) Done d here saying text new
+  abbrev As : EndsIn
+  As = IsDoneAs workers Answers Gives
+
+  ends_done : (saying : Saying) → Ends As Done d here saying text new
       → IsLineDone d here (Said saying) new
   ends_done SaysNothing ends = ends.1.1
   ends_done SaysWrong ends = ends.1.1
@@ -103,81 +129,148 @@ module _ (workers : ℕ) (Answers : ℕ → Way → Outcome → Type 0) (Gives :
   ends_done SaysBundles ends = ends.1.1
   ends_done SaysJournal ends = ends.1.1
 
-  once_done : (what : OnceSaying)
-      → EndsOnce (IsDoneAs workers Answers Gives) Done d here what text new
-      → IsLineDone d here what new
-  once_done (Said saying) ends = ends_done saying ends
-  once_done WantsDryUndo ends = ends.1
-  once_done WantsDryRedo ends = ends.1
-  once_done (WantsDryRestart names) ends = ends.1
-  once_done WantsDown ends = ends.1
+  ends_hindered : (saying : Saying) → Ends As Hindered d here saying text new
+      → IsLineHindered d here (Said saying) new
+  ends_hindered SaysNothing ends = let bad : Hindered ≡ Done = ends.0 in cc
+  ends_hindered SaysWrong ends = let bad : Hindered ≡ Refused = ends.0 in cc
+  ends_hindered (SaysStep command) (inl (events, told, made, does, is, ends)) =
+      (events, told, does, sym ends)
+  ends_hindered (SaysStep command) (inr (refused, why)) =
+      let bad : Hindered ≡ Refused = refused in cc
+  ends_hindered (SaysDry ask) ends = elim ends.0 [
+    | inl done ↦ let bad : Hindered ≡ Done = done.0 in cc
+    | inr refused ↦ let bad : Hindered ≡ Refused = refused.0 in cc
+  ]
+  ends_hindered SaysLive ends = let bad : Hindered ≡ Done = ends.0 in cc
+  ends_hindered SaysBundles ends = let bad : Hindered ≡ Done = ends.0 in cc
+  ends_hindered SaysJournal ends = let bad : Hindered ≡ Done = ends.0 in cc
 
-pub line_done : (workers : ℕ) (Answers : ℕ → Way → Outcome → Type 0) (Gives : ℕ → Type 0)
+  ends_refused : (saying : Saying) → Ends As Refused d here saying text new
+      → IsLineFault d here (Said saying) × (new ≡ here)
+  ends_refused SaysNothing ends = let bad : Refused ≡ Done = ends.0 in cc
+  ends_refused SaysWrong ends = (tt, ends.1.1)
+  ends_refused (SaysStep command) (inl (events, told, made, does, is, ends)) =
+      absurd (never_refused told ends)
+  ends_refused (SaysStep command) (inr refused) = ((refused.1.0, refused.1.1), refused.1.3)
+  ends_refused (SaysDry ask) ends = elim ends.0 [
+    | inl done ↦ let bad : Refused ≡ Done = done.0 in cc
+    | inr refused ↦ ((refused.1.0, refused.1.1), ends.1)
+  ]
+  ends_refused SaysLive ends = let bad : Refused ≡ Done = ends.0 in cc
+  ends_refused SaysBundles ends = let bad : Refused ≡ Done = ends.0 in cc
+  ends_refused SaysJournal ends = let bad : Refused ≡ Done = ends.0 in cc
+
+  -- what is only shown is done or refused
+  shown_done : (P Q : Type 0) → ((Hindered ≡ Done) × P) ⊎ ((Hindered ≡ Refused) × Q) → ⊥
+  shown_done P Q (inl done) = let bad : Hindered ≡ Done = done.0 in cc
+  shown_done P Q (inr refused) = let bad : Hindered ≡ Refused = refused.0 in cc
+
+  once_ended : (ending : Ending) (what : OnceSaying) → EndsOnce As ending d here what text new
+      → IsLineEnded ending d here what new
+  once_ended Done (Said saying) ends = ends_done saying ends
+  once_ended Done WantsDryUndo ends = ends.1
+  once_ended Done WantsDryRedo ends = ends.1
+  once_ended Done (WantsDryRestart names) ends = ends.1
+  once_ended Done WantsDown ends = ends.1
+  once_ended Refused (Said saying) ends = ends_refused saying ends
+  once_ended Refused WantsDryUndo ends = (tt, ends.1)
+  once_ended Refused WantsDryRedo ends = (tt, ends.1)
+  once_ended Refused (WantsDryRestart names) ends = (tt, ends.1)
+  once_ended Refused WantsDown ends = (tt, ends.1)
+  once_ended Hindered (Said saying) ends = ends_hindered saying ends
+  once_ended Hindered WantsDryUndo ends = absurd (shown_done _ _ ends.0)
+  once_ended Hindered WantsDryRedo ends = absurd (shown_done _ _ ends.0)
+  once_ended Hindered (WantsDryRestart names) ends = absurd (shown_done _ _ ends.0)
+  once_ended Hindered WantsDown ends = let bad : Hindered ≡ Done = ends.0.0 in cc
+
+pub line_ended : (workers : ℕ) (Answers : ℕ → Way → Outcome → Type 0) (Gives : ℕ → Type 0)
     (path : Option Path) (was is : Option (List ℕ)) (what : OnceSaying)
-    (written gained : Option (List ℕ)) (old new : Holding) (ending : Ending) → ending ≡ Done
-    → ServesOnce path was is (IsDoneAs workers Answers Gives) ending what written gained
-    old new → IsLineDone old.database old.line what new.line
-line_done workers Answers Gives path was is what written gained old new ending done serves =
-    once_done workers Answers Gives old.database old.line serves.text new.line what
+    (written gained : Option (List ℕ)) (old new : Holding) (told ending : Ending) → told ≡ ending
+    → ServesOnce path was is (IsDoneAs workers Answers Gives) told what written gained
+    old new → IsLineEnded ending old.database old.line what new.line
+line_ended workers Answers Gives path was is what written gained old new told ending same serves =
+    once_ended workers Answers Gives old.database old.line serves.text new.line ending what
     (subst (λ (e : Ending). EndsOnce (IsDoneAs workers Answers Gives) e old.database old.line what
-    serves.text new.line) done serves.ends)
+    serves.text new.line) same serves.ends)
 
--- two lines, the second one on another session, both of which are done
+-- one line that was served, to its end, has led its store so
+pub once_leads : {S : Type 0} (Put : Putting S) (path : Option Path) (workers : ℕ)
+    (Answers : ℕ → Way → Outcome → Type 0) (Gives : ℕ → Type 0)
+    (held holds written gained : Option (List ℕ)) (what : OnceSaying) (old new : Holding)
+    (was is : S) (ending : Ending) (result : Result Ending ServeFault) → result ≡ Ok ending
+    → ServedOnce result path held holds (IsDoneAs workers Answers Gives) what written gained
+    old new → OnOk result (PutsLine Put path old.database what old.line new.line was is)
+    → LeadsLine Put path ending old.database what old.line new.line was is
+once_leads Put path workers Answers Gives held holds written gained what old new was is ending
+    (Ok told) same served put = (
+      line_ended workers Answers Gives path held holds what written gained old new told ending
+          (subst (λ (r : Result Ending ServeFault). IfOk r (λ e. told ≡ e)) same refl) served,
+      put,
+    )
+once_leads Put path workers Answers Gives held holds written gained what old new was is ending
+    (Err fault) same served put =
+    let bad : ◌≡◌ {A = Result Ending ServeFault} (Err fault) (Ok ending) = same in cc
+
+-- two lines, the second one on another session, of which the first one is done and neither is
+-- refused
 module _ {S : Type 0} (Put : Putting S) (Enters : S → S → Type 0) (path : Option Path)
     (what then : Saying) (from middle to after : Holding) (was left entered is : S)
-    (first : LeadsLine Put path from.database (Said what) from.line middle.line was left)
-    (enters : Enters left entered) where
+    (first : LeadsLine Put path Done from.database (Said what) from.line middle.line was left)
+    (enters : Enters left entered)
+    (sound : IsLineSound to (Said then)) where
+  leads_both : (ending : Ending)
+      → LeadsLine Put path ending to.database (Said then) to.line after.line entered is
+      → LeadsBoth Put Enters path ending (Said what) (Said then) from to was is
+  leads_both ending second = record {
+    middle = middle.line;
+    after = after.line;
+    left = left;
+    entered = entered;
+    first = first;
+    enters = enters;
+    second = second;
+  }
+
   pub both_lead : (workers : ℕ) (Answers : ℕ → Way → Outcome → Type 0) (Gives : ℕ → Type 0)
       (held holds written gained : Option (List ℕ)) (result raised : Result Ending ServeFault)
       → result ≡ ended_by ending_behind raised
       → ServedOnce raised path held holds (IsDoneAs workers Answers Gives) (Said then) written
       gained to after
       → OnOk raised (PutsLine Put path to.database (Said then) to.line after.line entered is)
-      → result ≡ Ok Done → LeadsBoth Put Enters path (Said what) (Said then) from to was is
-  both_lead workers Answers Gives held holds written gained result (Ok Done) ends serves second
-      done = record {
-        middle = middle.line;
-        after = after.line;
-        left = left;
-        entered = entered;
-        first = first;
-        enters = enters;
-        second = (
-          line_done workers Answers Gives path held holds (Said then) written gained to
-              after Done refl
-              serves,
-          second,
-        );
-      }
-  both_lead workers Answers Gives held holds written gained result (Ok Refused) ends serves second
-      done = let bad : ◌≡◌ {A = Result Ending ServeFault} (Ok Hindered) (Ok Done) =
-      sym ends ∙ done in cc
-  both_lead workers Answers Gives held holds written gained result (Ok Hindered) ends serves second
-      done = let bad : ◌≡◌ {A = Result Ending ServeFault} (Ok Hindered) (Ok Done) =
-      sym ends ∙ done in cc
-  both_lead workers Answers Gives held holds written gained result (Err fault) ends serves second
-      done = let bad : ◌≡◌ {A = Result Ending ServeFault} (Err fault) (Ok Done) =
-      sym ends ∙ done in cc
+      → IfOk result (λ ending. LeadsSteps Put Enters path ending (Said what) (Said then) from to was
+      is)
+  both_lead workers Answers Gives held holds written gained result (Ok Done) ends serves second =
+      rw ends (leads_both Done (once_leads Put path workers Answers Gives held holds written gained
+      (Said then) to after entered is Done (Ok Done) refl serves second))
+  both_lead workers Answers Gives held holds written gained result (Ok Refused) ends serves second =
+      absurd (sound (once_leads Put path workers Answers Gives held holds written gained
+      (Said then) to after entered is Refused (Ok Refused) refl serves second).0.0)
+  both_lead workers Answers Gives held holds written gained result (Ok Hindered) ends serves
+      second =
+      rw ends (inr (leads_both Hindered (once_leads Put path workers Answers Gives held holds
+      written gained (Said then) to after entered is Hindered (Ok Hindered) refl serves second)))
+  both_lead workers Answers Gives held holds written gained result (Err fault) ends serves second =
+      rw ends tt
 
 -- an update whose steps lead so leads so from where its session begins
 module _ {S : Type 0} (Put : Putting S) (Enters : S → S → Type 0) (ask : UpdateAsk)
-    (new : Database) (was is : S) where
+    (ending : Ending) (new : Database) (was is : S) where
   pub leads_from : (stands from : Holding) (ahead : Ahead) → stands ≡ from
       → IsAhead ask from new ahead
-      → LeadsBoth Put Enters ask.session.live (Said (saying_of ahead.lowering))
+      → LeadsSteps Put Enters ask.session.live ending (Said (saying_of ahead.lowering))
       (Said (saying_of ahead.raising)) stands ahead.to was is
-      → LeadsFrom Put Enters ask from new was is
+      → LeadsFrom Put Enters ask ending from new was is
   leads_from stands from ahead same there leads = (
     there.parts,
     there.update,
-    subst (λ (h : Holding). LeadsBoth Put Enters ask.session.live
+    subst (λ (h : Holding). LeadsSteps Put Enters ask.session.live ending
         (lowering ask.dry there.parts.lower) (raising ask.dry there.parts.raise) from h was is)
         there.to
-        (subst (λ (t : OnceSaying). LeadsBoth Put Enters ask.session.live
+        (subst (λ (t : OnceSaying). LeadsSteps Put Enters ask.session.live ending
         (lowering ask.dry there.parts.lower) t from ahead.to was is) there.raises
-        (subst (λ (w : OnceSaying). LeadsBoth Put Enters ask.session.live w
+        (subst (λ (w : OnceSaying). LeadsSteps Put Enters ask.session.live ending w
         (Said (saying_of ahead.raising)) from ahead.to was is) there.lowers
-        (subst (λ (h : Holding). LeadsBoth Put Enters ask.session.live
+        (subst (λ (h : Holding). LeadsSteps Put Enters ask.session.live ending
         (Said (saying_of ahead.lowering)) (Said (saying_of ahead.raising)) h ahead.to was is)
         same leads))),
   )
@@ -185,42 +278,93 @@ module _ {S : Type 0} (Put : Putting S) (Enters : S → S → Type 0) (ask : Upd
   pub leads_on : (file : LiveFile) (old : Database) (from : Holding) → ((start : Line)
       × BeginsBy old ask.session.bound (file_named ask.session.live file) start
       × (from ≡ session_on old start))
-      → LeadsFrom Put Enters ask from new was is → LeadsOn Put Enters ask file old new was is
+      → LeadsFrom Put Enters ask ending from new was is
+      → LeadsOn Put Enters ask file ending old new was is
   leads_on file old from (start, begins, stands) leads = (
     start,
     begins,
-    subst (λ (h : Holding). LeadsFrom Put Enters ask h new was is) stands leads,
+    subst (λ (h : Holding). LeadsFrom Put Enters ask ending h new was is) stands leads,
   )
 
--- what ends with status 0 is done
-pub told_failed : (fault : SessionFault) (status : ℕ) (before after : Option (List ℕ))
-    → IsTold fault status before after → status ≡ 0 → ⊥
-told_failed fault status before after (inl told) zero =
-    let bad : ◌≡◌ {A = ℕ} 1 0 = sym told.0 ∙ zero in cc
-told_failed fault status before after (inr told) zero =
-    let bad : ◌≡◌ {A = ℕ} 111 0 = sym told.0 ∙ zero in cc
+-- words that are names of a database are unknown at no place
+known_words : (names : List (List ℕ)) (table : Bundles) (words : List (List ℕ)) (place : ℕ)
+    → ((word : List ℕ) → Contains words word → Contains names word)
+    → IsUnknownAt names table words place → ⊥
+known_words names table words place known (word, there, unknown, before) =
+    unknown (inl (known word (contains_at words place word there)))
 
-pub told_done : (ended : Result Ending SessionFault) (status : ℕ)
-    (before after : Option (List ℕ)) → IsEndTold ended status before after → status ≡ 0
-    → ended ≡ Ok Done
-told_done (Ok Done) status before after told zero = refl
-told_done (Ok Refused) status before after told zero =
-    let bad : ◌≡◌ {A = ℕ} 1 0 = sym told.0 ∙ zero in cc
-told_done (Ok Hindered) status before after told zero =
-    let bad : ◌≡◌ {A = ℕ} 2 0 = sym told.0 ∙ zero in cc
-told_done (Err fault) status before after told zero =
-    absurd (told_failed fault status before after told zero)
+-- a change of names that a database has, which names all that it moves, has no fault of its own
+named_fault : (d : Database) (here : Line) (mode : Mode) (names : List (List ℕ)) (In : ℕ → Type 0)
+    (refusal : Refusal) → AreNamesOf d In names
+    → IsOwnFault d here (Change (step_ask mode names) []) refusal → ⊥
+named_fault d here mode names In PruneNeedsUp are fault = let bad : false ≡ true = fault.0 in cc
+named_fault d here mode names In (Unknown place) are fault =
+    known_words d.names here.current.table names place
+    (λ word there. let named = (are.same word).0 there in
+    contains_at d.names named.0 word named.1) fault.1
+named_fault d here mode names In other are fault = absurd fault
 
--- a fault is no end as done, and an end as done is one where it is told, too
-pub never_done : (fault : SessionFault)
-    → ◌≡◌ {A = Result Ending SessionFault} (Err fault) (Ok Done) → ⊥
-never_done fault is =
-    let bad : ◌≡◌ {A = Result Ending SessionFault} (Err fault) (Ok Done) = is in cc
+line_sound : (d : Database) (here : Line) (dry : Bool) (mode : Mode) (names : List (List ℕ))
+    (In : ℕ → Type 0) → AreNamesOf d In names
+    → IsLineFault d here (Said (step_by dry (step_ask mode names))) → ⊥
+line_sound d here true mode names In are (refusal, fault) =
+    named_fault d here mode names In refusal are fault
+line_sound d here false mode names In are (refusal, fault) =
+    named_fault d here mode names In refusal are fault
 
-pub done_so : (ending : Ending) → ◌≡◌ {A = Result Ending SessionFault} (Ok ending) (Ok Done)
-    → ◌≡◌ {A = Result Ending ServeFault} (Ok ending) (Ok Done)
-done_so Done is = refl
-done_so Refused is =
-    let bad : ◌≡◌ {A = Result Ending SessionFault} (Ok Refused) (Ok Done) = is in cc
-done_so Hindered is =
-    let bad : ◌≡◌ {A = Result Ending SessionFault} (Ok Hindered) (Ok Done) = is in cc
+-- the lines of both steps of an update have none
+module _ (ask : UpdateAsk) (from : Holding) (new : Database) (ahead : Ahead)
+    (there : IsAhead ask from new ahead) where
+  pub lowers_soundly : (stands : Holding) → stands ≡ from
+      → IsLineSound stands (Said (saying_of ahead.lowering))
+  lowers_soundly stands same fault = line_sound from.database from.line ask.dry DownAll
+      there.parts.lower _ there.update.lower
+      (subst (λ (w : OnceSaying). IsLineFault from.database from.line w) there.lowers
+      (subst (λ (h : Holding). IsLineFault h.database h.line (Said (saying_of ahead.lowering))) same
+      fault))
+
+  pub raises_soundly : IsLineSound ahead.to (Said (saying_of ahead.raising))
+  raises_soundly fault =
+      let to = session_with new there.parts from in
+      line_sound to.database to.line ask.dry Up there.parts.raise _ there.update.raise
+      (subst (λ (w : OnceSaying). IsLineFault to.database to.line w) there.raises
+      (subst (λ (h : Holding). IsLineFault h.database h.line (Said (saying_of ahead.raising)))
+      there.to fault))
+
+-- a status is that of one ending
+pub one_ending : (one other : Ending) (status : ℕ) → status ≡ status_of one
+    → status ≡ status_of other → one ≡ other
+one_ending Done Done status one other = refl
+one_ending Refused Refused status one other = refl
+one_ending Hindered Hindered status one other = refl
+one_ending Done Refused status one other = let bad : ◌≡◌ {A = ℕ} 0 1 = sym one ∙ other in cc
+one_ending Done Hindered status one other = let bad : ◌≡◌ {A = ℕ} 0 2 = sym one ∙ other in cc
+one_ending Refused Done status one other = let bad : ◌≡◌ {A = ℕ} 1 0 = sym one ∙ other in cc
+one_ending Refused Hindered status one other = let bad : ◌≡◌ {A = ℕ} 1 2 = sym one ∙ other in cc
+one_ending Hindered Done status one other = let bad : ◌≡◌ {A = ℕ} 2 0 = sym one ∙ other in cc
+one_ending Hindered Refused status one other =
+    let bad : ◌≡◌ {A = ℕ} 2 1 = sym one ∙ other in cc
+
+-- a fault that is told with the status of an ending is a refusal
+pub told_refused : (fault : SessionFault) (status : ℕ) (before after : Option (List ℕ))
+    (ending : Ending) → IsTold fault status before after → status ≡ status_of ending
+    → (ending ≡ Refused) × IsRefusal fault
+told_refused fault status before after ending (inl told) same =
+    (one_ending ending Refused status same told.0, told.1)
+told_refused fault status before after Done (inr told) same =
+    let bad : ◌≡◌ {A = ℕ} 111 0 = sym told.0 ∙ same in cc
+told_refused fault status before after Refused (inr told) same =
+    let bad : ◌≡◌ {A = ℕ} 111 1 = sym told.0 ∙ same in cc
+told_refused fault status before after Hindered (inr told) same =
+    let bad : ◌≡◌ {A = ℕ} 111 2 = sym told.0 ∙ same in cc
+
+-- what is told with the status of an ending ended so, or is a refusal
+pub told_ended : (result : Result Ending SessionFault) (status : ℕ)
+    (before after : Option (List ℕ)) (ending : Ending) (P : Ending → Type 0) (Q : Type 0)
+    → IsEndTold result status before after → status ≡ status_of ending → IfOk result P
+    → IfErr result (λ fault. IsRefusal fault → Q) → ((ending ≡ Refused) × Q) ⊎ P ending
+told_ended (Ok told) status before after ending P Q is same leads alone =
+    inr (subst (λ (e : Ending). P e) (one_ending told ending status is.0 same) leads)
+told_ended (Err fault) status before after ending P Q is same leads alone =
+    let refused = told_refused fault status before after ending is same in
+    inl (refused.0, alone refused.1)

@@ -1,6 +1,6 @@
 -- How a session of the program ends.
 use Rattle.std.proofs.Common.{◌≡◌, ◌≢◌, ◌∙◌, ◌↔◌, ℕ, Bool, true, false, if◌then◌else◌}
-use Rattle.std.proofs.Common.{Contains, List, [], Option, None, Some, Ok, inl}
+use Rattle.std.proofs.Common.{Contains, List, [], Option, None, Some, inl}
 use Rattle.std.proofs.Common.{inr, refl, sym, subst}
 use Rattle.clap.specs.Words.{Text as Path}
 use Rattle.rc_graph.specs.declared.Way.{Way}

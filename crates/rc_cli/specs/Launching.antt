@@ -3,6 +3,8 @@ use Rattle.std.specs.Prelude.{◌≡◌, ◌⊎◌, ℕ, List, Option, None, fal
 use Rattle.clap.specs.Words.{Text as Path}
 use Rattle.rc_model.specs.Database.{Database}
 use Rattle.rc_model.specs.Line.{Line}
+use Rattle.rc_serve.specs.declared.ending.Ending.{Ending}
+use Rattle.rc_serve.specs.declared.ending.Ending.TheVariants.{Refused}
 use Rattle.rc_args.specs.OnceAsked.{once_saying_of}
 use Rattle.rc_cli.specs.Filing.{BeginsBy, CannotKeep, file_named}
 use Rattle.rc_cli.specs.Putting.{LeadsLine, Putting}
@@ -25,21 +27,28 @@ Launches service asked status deal reader writer keeper before after = EndsAs
     (CannotKeep asked.ask asked.file keeper))
     status before after
 
--- all of a service is done on a session, and has led its store so: one line, or the two steps of a
+-- a service ended so on a session, and has led its store so: one line, or the two steps of a
 -- restart
-abbrev pub LeadsFor : {S : Type 0} → Putting S → Service → Option Path → Database → Line
+abbrev pub LeadsFor : {S : Type 0} → Putting S → Service → Option Path → Ending → Database → Line
     → (was is : S) → Type 0
-LeadsFor Put Lines path d here was is = Unit {0}
-LeadsFor Put (OneLine once) path d here was is =
-    (new : Line) × LeadsLine Put path d (once_saying_of once.now) here new was is
-LeadsFor Put (Restart names) path d here was is =
-    LeadsBack Put path (lowering false (map string_bytes names.now)) d here was is
+LeadsFor Put Lines path ending d here was is = Unit {0}
+LeadsFor Put (OneLine once) path ending d here was is =
+    (new : Line) × LeadsLine Put path ending d (once_saying_of once.now) here new was is
+LeadsFor Put (Restart names) path ending d here was is =
+    LeadsBack Put path ending (lowering false (map string_bytes names.now)) d here was is
 
 -- and so from where its session begins
-abbrev pub LeadsLaunched : {S : Type 0} → Putting S → Service → Asked
+abbrev pub LeadsBegun : {S : Type 0} → Putting S → Service → Asked → Ending
     → (remaining after : Option (List ℕ)) → (was is : S) → Type 0
-LeadsLaunched Put service asked remaining after was is =
+LeadsBegun Put service asked ending remaining after was is =
     (d : Database) × (input : Option (List ℕ)) × (left : Option (List ℕ))
     × Opens asked.base remaining after d input left × (start : Line)
     × BeginsBy d asked.ask.bound (file_named asked.ask.live asked.file) start
-    × LeadsFor Put service asked.ask.live d start was is
+    × LeadsFor Put service asked.ask.live ending d start was is
+
+-- a session that is refused before it begins leaves its store alone
+abbrev pub LeadsLaunched : {S : Type 0} → Putting S → Service → Asked → Ending
+    → (remaining after : Option (List ℕ)) → (was is : S) → Type 0
+LeadsLaunched Put service asked ending remaining after was is =
+    ((ending ≡ Refused) × (is ≡ was))
+    ⊎ LeadsBegun Put service asked ending remaining after was is

@@ -58,13 +58,15 @@ Restarted result path was is As what written gained old = IsShort result was is 
     × ServedOnce result path was is As what written gained old after)
     ⊎ ServesSteps result path was is As what written gained old)
 
--- all of a restart is done whose first line says this, and it has led its store so: by the first
--- step, and if that has moved something, from there by the second one
-pub record LeadsBack {S : Type 0} (Put : Putting S) (path : Option Path) (what : OnceSaying)
-    (d : Database) (here : Line) (was is : S) : Type 0 where
+-- a restart whose first line says this ended so, and has led its store so: by the first step, and
+-- if that is not refused and has moved something, from there by the second one
+pub record LeadsBack {S : Type 0} (Put : Putting S) (path : Option Path) (ending : Ending)
+    (what : OnceSaying) (d : Database) (here : Line) (was is : S) : Type 0 where
+  pub lowered : Ending
   pub middle : Line
   pub left : S
-  pub first : LeadsLine Put path d what here middle was left
-  pub back : ((middle.current.live ≡ here.current.live) × (is ≡ left))
-      ⊎ ((middle.current.live ≢ here.current.live)
-      × (new : Line) × LeadsLine Put path d coming_back middle new left is)
+  pub first : LeadsLine Put path lowered d what here middle was left
+  pub back : ((ending ≡ lowered) × (middle.current.live ≡ here.current.live) × (is ≡ left))
+      ⊎ ((lowered ≢ Refused) × (middle.current.live ≢ here.current.live) × (raised : Ending)
+      × (ending ≡ ending_with lowered raised)
+      × (new : Line) × LeadsLine Put path raised d coming_back middle new left is)

@@ -5,6 +5,7 @@ use Rattle.rc_graph.specs.declared.Way.TheVariants.{Lower, Raise}
 use Rattle.rc_model.specs.Database.{Database}
 use Rattle.rc_model.specs.Line.{Line}
 use Rattle.rc_serve.specs.declared.ending.Ending.{Ending}
+use Rattle.rc_serve.specs.declared.ending.Ending.TheVariants.{Refused}
 use Rattle.rc_serve.specs.declared.fault.ServeFault.{ServeFault}
 use Rattle.rc_serve.specs.declared.fault.ServeFault.TheVariants.{Memory}
 use Rattle.rc_serve.specs.Faults.{IsServeFault}
@@ -126,17 +127,18 @@ Updates old new ask file status was is written gained writer keeper before after
     (CannotKeep ask.session file keeper))
     status before after
 
--- an update from one database to another, all of which is done, has led its store so: from where
--- the session of the old one begins, through both steps
+-- an update from one database to another ended so, and has led its store so: from where the session
+-- of the old one begins
 abbrev pub LeadsOn : {S : Type 0} → Putting S → (Enters : S → S → Type 0) → UpdateAsk → LiveFile
-    → (old new : Database) → (was is : S) → Type 0
-LeadsOn Put Enters ask file old new was is = (start : Line)
+    → Ending → (old new : Database) → (was is : S) → Type 0
+LeadsOn Put Enters ask file ending old new was is = (start : Line)
     × BeginsBy old ask.session.bound (file_named ask.session.live file) start
-    × LeadsFrom Put Enters ask (session_on old start) new was is
+    × LeadsFrom Put Enters ask ending (session_on old start) new was is
 
--- and so between the databases of two texts
+-- and so between the databases of two texts; one that is refused leaves its store alone
 abbrev pub Leads : {S : Type 0} → Putting S → (Enters : S → S → Type 0) → (old new : List ℕ)
-    → UpdateAsk → LiveFile → (was is : S) → Type 0
-Leads Put Enters old new ask file was is = (from : Database) × (to : Database)
+    → UpdateAsk → LiveFile → Ending → (was is : S) → Type 0
+Leads Put Enters old new ask file ending was is = ((ending ≡ Refused) × (is ≡ was))
+    ⊎ ((from : Database) × (to : Database)
     × Spells (Some old) [] from [] × Spells (Some new) [] to []
-    × LeadsOn Put Enters ask file from to was is
+    × LeadsOn Put Enters ask file ending from to was is)

@@ -1,13 +1,13 @@
 -- The two steps of an update: one by the old database, and one by the new.
 use Rattle.std.specs.Prelude.{◌≡◌, ◌≢◌, ◌⊎◌, ◌∷◌, ℕ, Bool, List, [], Option}
-use Rattle.std.specs.Prelude.{Result, Ok, Err, length, map, slice_get}
+use Rattle.std.specs.Prelude.{Result, Ok, Err, length, map}
 use Rattle.std.specs.String.{string_bytes}
 use Rattle.rc_graph.specs.declared.Way.{Way}
 use Rattle.rc_graph.specs.declared.Way.TheVariants.{Lower, Raise}
 use Rattle.clap.specs.Words.{Text as Path}
 use Rattle.rc_model.specs.Names.{Has, Holds}
 use Rattle.rc_model.specs.Database.{Database}
-use Rattle.rc_model.specs.Line.{Line, State, cursor, states}
+use Rattle.rc_model.specs.Line.{Line}
 use Rattle.rc_session.specs.Holding.{Holding}
 use Rattle.rc_serve.specs.declared.ending.Ending.{Ending}
 use Rattle.rc_serve.specs.declared.ending.Ending.TheVariants.{Done}
@@ -19,7 +19,7 @@ use Rattle.rc_args.specs.UpdateAsked.{UpdateAsk}
 use Rattle.rc_script.specs.Says.{saying_of}
 use Rattle.rc_args.specs.Programs.{ByPrograms, ByTable, MakingAsk}
 use Rattle.rc_cli.specs.Once.{ServedOnce, ServesOnce}
-use Rattle.rc_cli.specs.Putting.{LeadsBoth, Putting}
+use Rattle.rc_cli.specs.Putting.{LeadsSteps, Putting}
 use Rattle.rc_cli.specs.Services.{IsDoneFor}
 use Rattle.rc_cli.specs.Serving.{session_on}
 use Rattle.rc_cli.specs.Steps.{ended_by, ending_behind, lowering, raising}
@@ -138,10 +138,10 @@ Updated result path was is As At list dry written gained from new = (parts : Par
     × ServedBoth result path was is As At (lowering dry parts.lower) (raising dry parts.raise)
     written gained from (session_with new parts from)
 
--- an update from where a session stands, all of which is done, has led its store so
-abbrev pub LeadsFrom : {S : Type 0} → Putting S → (Enters : S → S → Type 0) → UpdateAsk → Holding
-    → Database → (was is : S) → Type 0
-LeadsFrom Put Enters ask from new was is = (parts : Parts)
+-- an update from where a session stands ended so, and has led its store so
+abbrev pub LeadsFrom : {S : Type 0} → Putting S → (Enters : S → S → Type 0) → UpdateAsk → Ending
+    → Holding → Database → (was is : S) → Type 0
+LeadsFrom Put Enters ask ending from new was is = (parts : Parts)
     × IsUpdate from.database new ask.conversions from.line parts
-    × LeadsBoth Put Enters ask.session.live (lowering ask.dry parts.lower)
+    × LeadsSteps Put Enters ask.session.live ending (lowering ask.dry parts.lower)
     (raising ask.dry parts.raise) from (session_with new parts from) was is

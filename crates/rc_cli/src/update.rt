@@ -2,6 +2,8 @@
 ghost use Rattle.std.specs.Prelude.{◌≡◌};
 ghost use Rattle.rc_streams.specs.Noting.{HasFailed, inner_of};
 ghost use Rattle.rc_args.specs.UpdateAsked.{update_ask_of};
+ghost use Rattle.rc_serve.specs.declared.ending.Ending.{Ending};
+ghost use Rattle.rc_cli.specs.SessionFaults.{status_of};
 ghost use Rattle.rc_cli.specs.Storing.{store_of};
 ghost use Rattle.rc_cli.specs.UpdateEnds.{Leads, Updates};
 
@@ -45,9 +47,11 @@ pub fn update_as_asked<T: Threads + Wait + Sync, R, W: Write, F: Write, S: Store
 
     // With status 0, the store is led so: the text of where the old session stands, the one that
     // the first step leaves, that an update has entered its database, and the same of the second
-    // step.
-    ensures led { result ≡ 0 → Leads S.put S.entered old.now new.now (update_ask_of request.now)
-        live.entry (store_of devices.old.outputs.keeper) (store_of devices.new.outputs.keeper) }
+    // step. With status 2 the last step that was begun is not all done. With status 1 the store is
+    // left alone.
+    ensures led { (ending : Ending) → result ≡ status_of ending →
+        Leads S.put S.entered old.now new.now (update_ask_of request.now) live.entry ending
+        (store_of devices.old.outputs.keeper) (store_of devices.new.outputs.keeper) }
     ensures unread { devices.new.reader ≡ devices.old.reader }
 {
     let from = match spelled(host.alloc, Some(old), &[]) {

@@ -1,7 +1,7 @@
 //! The two steps of an update: how their transitions are made, what they move, and that they are
 //! kept.
 ghost use Rattle.std.specs.Prelude.{◌≡◌, ◌≢◌, ◌≤◌, ◌++◌, ℕ, List, [], None, false, length, map};
-ghost use Rattle.std.specs.Prelude.{IfErr, IfOk, MatchOption, Ok, OnOk};
+ghost use Rattle.std.specs.Prelude.{IfErr, IfOk, MatchOption, OnOk};
 ghost use Rattle.rc_graph.specs.declared.Way.TheVariants.{Lower, Raise};
 ghost use Rattle.rc_model.specs.Graph.{IsClosed};
 ghost use Rattle.rc_model.specs.Names.{Has};
@@ -9,7 +9,6 @@ ghost use Rattle.rc_streams.specs.Noting.{HasFailed, inner_of};
 ghost use Rattle.rc_script.specs.Says.{saying_of};
 ghost use Rattle.rc_serve.specs.Ending.{IsDoneAs};
 ghost use Rattle.rc_serve.specs.Faults.{IsServeFault};
-ghost use Rattle.rc_serve.specs.declared.ending.Ending.TheVariants.{Done};
 ghost use Rattle.rc_args.specs.Making.{making_ask_of};
 ghost use Rattle.rc_args.specs.OnceAsked.{Said};
 ghost use Rattle.rc_args.specs.Reading.{listed_of};
@@ -17,8 +16,9 @@ ghost use Rattle.rc_args.specs.SessionAsked.{session_ask_of};
 ghost use Rattle.rc_args.specs.UpdateAsked.{update_ask_of};
 ghost use Rattle.rc_cli.specs.Filing.{CannotKeep};
 ghost use Rattle.rc_cli.specs.Gating.{IsGateFor, IsGateless};
-ghost use Rattle.rc_cli.specs.Putting.{LeadsBoth};
+ghost use Rattle.rc_cli.specs.Putting.{IsLineSound, LeadsSteps};
 ghost use Rattle.rc_cli.specs.Serving.{session_on};
+ghost use Rattle.rc_cli.specs.SessionFaults.{IsRefusal};
 ghost use Rattle.rc_cli.specs.Steps.{ended_by, ending_behind};
 ghost use Rattle.rc_cli.specs.Storing.{store_of};
 ghost use Rattle.rc_update.specs.Conversions.{conversions_of};
@@ -84,8 +84,10 @@ pub(crate) fn update_on<'a, T: Threads + Wait + Sync, W: Write, S: Store, L: Log
         (W.contents (inner_of outputs.old.writer)) (W.contents (inner_of outputs.new.writer))
         (HasFailed outputs.new.writer) (CannotKeep (session_ask_of request.now.session) live.entry
         (S.failed (store_of outputs.new.keeper))) }
-    ensures led { result ≡ Ok Done → LeadsOn S.put S.entered (update_ask_of request.now)
-        live.entry old new (store_of outputs.old.keeper) (store_of outputs.new.keeper) }
+    ensures led { IfOk result (λ ending. LeadsOn S.put S.entered (update_ask_of request.now)
+        live.entry ending old new (store_of outputs.old.keeper) (store_of outputs.new.keeper)) }
+    ensures alone { IfErr result (λ fault. IsRefusal fault
+        → store_of outputs.new.keeper ≡ store_of outputs.old.keeper) }
 {
     live_laws::spelling_is_unique();
     let _names = old.names();
@@ -322,9 +324,11 @@ fn serve_both<T: Threads + Wait + Sync, W: Write, G: Gate, S: Store, L>(
         from.old ahead.old.to }
     ensures fault { IfErr result (IsServeFault ⊥ (HasFailed outputs.new.writer)
         (((session_ask_of request.now).live ≢ None) × S.failed (store_of outputs.new.keeper))) }
-    ensures led { result ≡ Ok Done → LeadsBoth S.put S.entered (session_ask_of request.now).live
+    ensures led { IsLineSound from.old (Said (saying_of ahead.old.lowering))
+        → IsLineSound ahead.old.to (Said (saying_of ahead.old.raising))
+        → IfOk result (λ ending. LeadsSteps S.put S.entered (session_ask_of request.now).live ending
         (Said (saying_of ahead.old.lowering)) (Said (saying_of ahead.old.raising))
-        from.old ahead.old.to (store_of outputs.old.keeper) (store_of outputs.new.keeper) }
+        from.old ahead.old.to (store_of outputs.old.keeper) (store_of outputs.new.keeper)) }
 {
     match line_once(host, request, from, &gates.lowers, &ahead.lowering, outputs) {
         Ok(Ending::Done) => {

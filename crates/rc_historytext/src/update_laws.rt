@@ -1,7 +1,7 @@
 //! Laws of an update, each the contract of a function that does nothing. What its steps make of the
 //! text of a history is an update of the history that the text gives, and one undo on the text
 //! takes it back.
-ghost use Rattle.std.specs.Prelude.{◌≡◌, ℕ, Bool, List, [], false};
+ghost use Rattle.std.specs.Prelude.{◌≡◌, ◌⊎◌, ℕ, Bool, List, [], false};
 ghost use Rattle.rc_model.specs.Database.{Database, IsDatabase};
 ghost use Rattle.rc_model.specs.Line.{Line};
 ghost use Rattle.rc_model.specs.Session.{IsLineOf};
@@ -59,12 +59,14 @@ pub fn updates_of_texts_are_updates()
     services_go_on_unaltered_or_not();
 }
 
-/// One undo on the text that goes well takes an update back: it restores the database, the live set
-/// and the bundles that the update found.
+/// One undo on the text that goes well takes an update back, whether all of it is done or its
+/// second half is not: the undo restores the database, the live set and the bundles that the update
+/// found.
 pub fn one_undo_on_the_text_takes_an_update_back()
     ensures { (list : List Conversion) (d : Database) (bytes next back : List ℕ) (h : History)
         (marks : List Bool) → AreDistinct list → IsHistory h → GivesHistory bytes h marks
-        → GoesOn false bytes false → UpdatesTo list d bytes next → Travels false next back
+        → GoesOn false bytes false
+        → UpdatesTo list d bytes next ⊎ CarriesOver list d bytes next → Travels false next back
         → (old : History) × (now : List Bool) × GivesHistory back old now × IsHistory old
         × (place_now old ≡ place_now h) }
 {

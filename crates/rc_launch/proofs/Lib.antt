@@ -20,7 +20,6 @@ mod JournalLines
 -- An undo that goes back to a state, undo by undo.
 mod BackLemmas
 -- A command is served alone by the history that its store was found to hold.
-mod AloneLemmas
 -- What is put into a store, one text after the other, as an update and a restart put theirs.
 mod PuttingLemmas
 -- Where all that was planned is done, what is live is the target.

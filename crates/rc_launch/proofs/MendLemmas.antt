@@ -60,7 +60,7 @@ pub repairs : (finding : Finding) (base : List ℕ) (ask : SessionAsk) (restarte
     → status ≡ 0
     → (lowered ≡ 0 → (finding.strays ≡ []) ⊎ AreLowered base ask finding.strays)
     → (restarted ≡ 0 → LeadsOn was new (λ bytes is. ((finding.fallen ≡ []) × (is ≡ bytes))
-    ⊎ Restarts finding.fallen bytes is))
+    ⊎ Restarts Done finding.fallen bytes is))
     → LeadsOn was new (Repairs finding base ask)
 repairs finding base ask restarted lowered status was new is zero strays fallen =
     let all = all_mended restarted lowered finding.unknown (sym is ∙ zero) in

@@ -31,7 +31,7 @@ AreLowered base ask strays = (d : Database) × Spells (Some base) [] d []
 abbrev pub Repairs : Finding → (base : List ℕ) → SessionAsk → (bytes is : List ℕ) → Type 0
 Repairs finding base ask bytes is = (finding.unknown ≡ false)
     × ((finding.strays ≡ []) ⊎ AreLowered base ask finding.strays)
-    × (((finding.fallen ≡ []) × (is ≡ bytes)) ⊎ Restarts finding.fallen bytes is)
+    × (((finding.fallen ≡ []) × (is ≡ bytes)) ⊎ Restarts Done finding.fallen bytes is)
 
 -- a check of the present generation has repaired all that it found there
 abbrev pub Mends : NamedAsk → SessionAsk → (bytes is : List ℕ) → Type 0

@@ -3,12 +3,14 @@ ghost use Rattle.std.specs.Prelude.{◌≡◌, ◌⊎◌, ℕ, Bool, false, IsSo
 ghost use Rattle.std.specs.Prelude.{is_some, map, string_bytes};
 ghost use Rattle.rc_update.specs.Conversions.{conversions_of};
 ghost use Rattle.rc_streams.specs.Noting.{HasFailed, inner_of};
+ghost use Rattle.rc_serve.specs.declared.ending.Ending.{Ending};
 ghost use Rattle.rc_args.specs.OnceAsked.{once_saying_of};
 ghost use Rattle.rc_args.specs.NamedAsked.{named_ask_of};
 ghost use Rattle.rc_args.specs.SessionAsked.{session_ask_of};
 ghost use Rattle.rc_args.specs.declared.named_words.NamedRequest.{NamedRequest};
 ghost use Rattle.rc_args.specs.declared.update_words.UpdateRequest.{UpdateRequest};
 ghost use Rattle.rc_cli.specs.Session.{dealt};
+ghost use Rattle.rc_cli.specs.SessionFaults.{status_of};
 ghost use Rattle.rc_cli.specs.Storing.{store_of};
 ghost use Rattle.rc_cli.specs.declared.sessions.keeping.LiveFile.{LiveFile};
 ghost use Rattle.rc_historytext.specs.Halting.{Halts};
@@ -122,21 +124,22 @@ pub fn carry_out<'x, T: Threads + Wait + Sync, R: Read, W: Write, F: Write>(
         Leads (store_of devices.old.outputs.keeper) (store_of devices.new.outputs.keeper)
         (IsRefusedOn false) }
 
-    // An update with status 0 first takes back what was cut short, and then carries the history
-    // over to its database by both steps, or leaves it, where it is up to date.
+    // An update first takes back what was cut short, and then carries the history over to its
+    // database by both steps, or leaves it, where it is up to date. Its status says where that has
+    // ended: with 1 it is refused, with 2 not all of a step is done, and none follows.
     ensures updates { (request : UpdateRequest) → AsksUpdate opened.now.loaded.command request →
-        NamesFile opened.now.loaded → result.code ≡ 0 →
+        NamesFile opened.now.loaded → (ending : Ending) → result.code ≡ status_of ending →
         Leads (store_of devices.old.outputs.keeper) (store_of devices.new.outputs.keeper)
-        (UpdatesFrom (bytes_of opened.now.loaded.new)
+        (UpdatesFrom ending (bytes_of opened.now.loaded.new)
         (conversions_of request.conversions.items)) }
 
-    // A restart with status 0 first takes back what an undo takes back inside the present
-    // generation, and then takes both of its steps there.
+    // A restart first takes back what an undo takes back inside the present generation, and then
+    // takes both of its steps there. Its status says where that has ended.
     ensures restarts { (request : NamedRequest) →
         AsksRestart opened.now.loaded.command request →
-        NamesFile opened.now.loaded → result.code ≡ 0 →
+        NamesFile opened.now.loaded → (ending : Ending) → result.code ≡ status_of ending →
         Leads (store_of devices.old.outputs.keeper) (store_of devices.new.outputs.keeper)
-        (RestartsFrom (map string_bytes request.names.items)) }
+        (RestartsFrom ending (map string_bytes request.names.items)) }
 
     // A check that repairs, with status 0, first takes back what a restart does. Then all that it
     // found elsewhere is where the session says: strays are down, and what has fallen is restarted.
@@ -170,8 +173,8 @@ pub fn carry_out<'x, T: Threads + Wait + Sync, R: Read, W: Write, F: Write>(
         threads,
         opened,
     };
-    let is_history = devices.outputs.keeper.store.history().is_some();
-    match led_by(opened.command(), is_history) {
+    let is_history = devices.outputs.keeper.store.has_history();
+    match led_by(&opened.loaded.command, is_history) {
         Led::Way(way) => status_of(travel(&execution, way, devices)),
         Led::Back(aim) => status_of(go_back(&execution, aim, devices)),
         Led::Shown(shown) => status_of(show(&execution, shown, devices)),

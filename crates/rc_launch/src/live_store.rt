@@ -3,7 +3,7 @@
 //! written again; a file beside it shows that it could be.
 ghost use Rattle.std.specs.Prelude.{◌≡◌, ◌≢◌, ◌↔◌, None, option_map, if◌then◌else◌, IfErr, IfOk};
 ghost use Rattle.std.specs.Prelude.{false, true, IfSome, IsErr, IsNone, IsOk, IsOkAnd, IsSome};
-ghost use Rattle.std.specs.Prelude.{IsTrue, OnErr, OnOk, Some};
+ghost use Rattle.std.specs.Prelude.{IsTrue, OnErr, OnOk, Some, is_some};
 ghost use Rattle.rc_args.specs.Making.{making_ask_of};
 ghost use Rattle.rc_args.specs.Programs.{StartsBy};
 ghost use Rattle.rc_launch.specs.Beside.{AreRunsOf, IsLocked};
@@ -177,6 +177,13 @@ impl<'a> LiveStore<'a> {
             Frame::History(framed) => Some(framed.whole()),
             _ => None,
         }
+    }
+
+    /// Returns true if a history stands in the file.
+    pub(crate) fn has_history(&self) -> bool
+        ensures { result ≡ is_some (history_held self.now) }
+    {
+        matches!(&self.frame, Frame::History(_))
     }
 
     /// Crosses a border of the history, as one write.

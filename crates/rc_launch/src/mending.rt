@@ -6,6 +6,7 @@ ghost use Rattle.rc_streams.specs.Noting.{HasFailed};
 ghost use Rattle.rc_args.specs.NamedAsked.{named_ask_of};
 ghost use Rattle.rc_args.specs.SessionAsked.{session_ask_of};
 ghost use Rattle.rc_historytext.specs.Present.{IsPresent};
+ghost use Rattle.rc_serve.specs.declared.ending.Ending.TheVariants.{Done};
 ghost use Rattle.rc_cli.specs.Checking.{finding_of};
 ghost use Rattle.rc_cli.specs.Storing.{store_of};
 ghost use Rattle.rc_cli.specs.declared.sessions.keeping.LiveFile.TheVariants.{Text};
@@ -175,7 +176,7 @@ fn restart_found<'x, T: Threads + Wait + Sync, R: Read, W: Write, F: Write>(
         IsPresent was base.now session.now →
         LeadsOn was (store_of devices.new.outputs.keeper)
         (λ bytes is. (((finding_of findings.now).fallen ≡ []) × (is ≡ bytes))
-        ⊎ Restarts (finding_of findings.now).fallen bytes is) }
+        ⊎ Restarts Done (finding_of findings.now).fallen bytes is) }
 {
     if findings.fallen.is_empty() {
         return DONE;

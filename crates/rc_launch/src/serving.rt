@@ -3,9 +3,11 @@ ghost use Rattle.std.specs.Prelude.{◌≡◌, map, option_map, string_bytes, No
 ghost use Rattle.rc_streams.specs.Noting.{HasFailed, inner_of};
 ghost use Rattle.rc_args.specs.SessionAsked.{session_ask_of};
 ghost use Rattle.rc_args.specs.UpdateAsked.{update_ask_of};
+ghost use Rattle.rc_serve.specs.declared.ending.Ending.{Ending};
 ghost use Rattle.rc_cli.specs.Launching.{Launches, LeadsLaunched};
 ghost use Rattle.rc_cli.specs.Session.{asked_with, dealt};
 ghost use Rattle.rc_cli.specs.Status.{run_log_of};
+ghost use Rattle.rc_cli.specs.SessionFaults.{status_of};
 ghost use Rattle.rc_cli.specs.Storing.{store_of};
 ghost use Rattle.rc_cli.specs.Straying.{LowersStrays};
 ghost use Rattle.rc_cli.specs.UpdateEnds.{Leads};
@@ -131,9 +133,10 @@ pub(crate) fn serve_on<'x, T: Threads + Wait + Sync, R: Read, W: Write, F: Write
         (HasFailed devices.new.reader) (HasFailed devices.new.outputs.writer)
         (S.failed (store_of devices.new.outputs.keeper))
         (F.contents devices.old.faults) (F.contents devices.new.faults) }
-    ensures led { result ≡ 0 → LeadsLaunched S.put service.entry
+    ensures led { (ending : Ending) → result ≡ status_of ending →
+        LeadsLaunched S.put service.entry
         (asked_with (session_ask_of (session_in execution.now.opened.now.loaded)) (Some base.now)
-        live.entry) (R.remaining (inner_of devices.old.reader))
+        live.entry) ending (R.remaining (inner_of devices.old.reader))
         (R.remaining (inner_of devices.new.reader))
         (store_of devices.old.outputs.keeper) (store_of devices.new.outputs.keeper) }
 {
@@ -158,8 +161,8 @@ pub(crate) fn serve_update<'x, T: Threads + Wait + Sync, R: Read, W: Write, F: W
     devices: &mut Devices<R, W, F, S>,
 ) -> u8
     requires writer { HasFailed devices.old.outputs.writer → ⊥ }
-    ensures { result ≡ 0 → Leads S.put S.entered base.now
-        (bytes_of execution.now.opened.now.loaded.new) (update_ask_of request.now) live.entry
+    ensures { (ending : Ending) → result ≡ status_of ending → Leads S.put S.entered base.now
+        (bytes_of execution.now.opened.now.loaded.new) (update_ask_of request.now) live.entry ending
         (store_of devices.old.outputs.keeper) (store_of devices.new.outputs.keeper) }
 {
     let opened = execution.opened;

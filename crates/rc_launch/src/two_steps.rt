@@ -2,18 +2,22 @@
 //! takes back what was cut short before it: an update all of it, a restart what an undo takes back
 //! without crossing a border.
 ghost use Rattle.std.specs.Prelude.{◌≡◌, ◌≢◌, ℕ, List, None, Some, IfErr, IfOk, IfSome, IsTrue, Ok};
-ghost use Rattle.std.specs.Prelude.{OnOk, false, length, map, string_bytes};
+ghost use Rattle.std.specs.Prelude.{OnOk, false, length, map, string_bytes, true};
 ghost use Rattle.rc_streams.specs.Noting.{HasFailed};
 ghost use Rattle.rc_update.specs.Conversions.{conversions_of};
+ghost use Rattle.rc_historytext.specs.Halting.{Halts};
 ghost use Rattle.rc_historytext.specs.Present.{IsPresent};
 ghost use Rattle.rc_historytext.specs.Travelling.{GoesOn};
 ghost use Rattle.rc_historytext.specs.Updating.{IsSettled};
+ghost use Rattle.rc_serve.specs.declared.ending.Ending.{Ending};
+ghost use Rattle.rc_cli.specs.SessionFaults.{status_of};
 ghost use Rattle.rc_cli.specs.Storing.{store_of};
+ghost use Rattle.rc_launch.specs.Halted.{HasHalted, IsRefusedOn};
 ghost use Rattle.rc_launch.specs.HeldHistory.{Leads, LeadsOn, history_held};
 ghost use Rattle.rc_launch.specs.Loading.{NamesFile, bytes_of};
 ghost use Rattle.rc_launch.specs.TwoSteps.{CarriesBy, GoesBackInside, HoldsFor, IsKeptUpdate};
-ghost use Rattle.rc_launch.specs.TwoSteps.{IsTaken, IsToUpdate, Restarts, RestartsFrom, TakesBack};
-ghost use Rattle.rc_launch.specs.TwoSteps.{TakesBackInside, UpdatesFrom};
+ghost use Rattle.rc_launch.specs.TwoSteps.{IsTaken, IsToUpdate, RestartsBy, RestartsFrom};
+ghost use Rattle.rc_launch.specs.TwoSteps.{StopsBefore, TakesBack, TakesBackInside, UpdatesFrom};
 
 use crate::borders::{goes_back_inside, goes_on_behind};
 use crate::execution::Execution;
@@ -49,10 +53,10 @@ pub(crate) fn update<'x, T: Threads + Wait + Sync, R: Read, W: Write, F: Write>(
 ) -> u8
     requires reader { HasFailed devices.old.reader → ⊥ }
     requires writer { HasFailed devices.old.outputs.writer → ⊥ }
-    ensures done { result ≡ 0 → NamesFile execution.now.opened.now.loaded →
-        IsKeptUpdate request.now →
+    ensures ended { (ending : Ending) → result ≡ status_of ending →
+        NamesFile execution.now.opened.now.loaded → IsKeptUpdate request.now →
         Leads (store_of devices.old.outputs.keeper) (store_of devices.new.outputs.keeper)
-        (UpdatesFrom (bytes_of execution.now.opened.now.loaded.new)
+        (UpdatesFrom ending (bytes_of execution.now.opened.now.loaded.new)
         (conversions_of request.now.conversions.items)) }
 {
     match all_taken_back(execution, devices) {
@@ -70,9 +74,10 @@ pub(crate) fn restart<'x, T: Threads + Wait + Sync, R: Read, W: Write, F: Write>
 ) -> u8
     requires reader { HasFailed devices.old.reader → ⊥ }
     requires writer { HasFailed devices.old.outputs.writer → ⊥ }
-    ensures done { result ≡ 0 → NamesFile execution.now.opened.now.loaded →
+    ensures ended { (ending : Ending) → result ≡ status_of ending →
+        NamesFile execution.now.opened.now.loaded →
         Leads (store_of devices.old.outputs.keeper) (store_of devices.new.outputs.keeper)
-        (RestartsFrom (map string_bytes request.now.names.items)) }
+        (RestartsFrom ending (map string_bytes request.now.names.items)) }
 {
     match inside_taken_back(execution, devices) {
         Ok(true) => hindered(serve_restart(execution, request, devices)),
@@ -95,6 +100,10 @@ fn all_taken_back<'x, T: Threads + Wait + Sync, R: Read, W: Write, F: Write>(
     ensures taken { IfOk result (λ taken. NamesFile execution.now.opened.now.loaded →
         Leads (store_of devices.old.outputs.keeper) (store_of devices.new.outputs.keeper)
         (TakesBack taken)) }
+    ensures stops { IfErr result (λ code. (ending : Ending) → code ≡ status_of ending →
+        NamesFile execution.now.opened.now.loaded →
+        Leads (store_of devices.old.outputs.keeper) (store_of devices.new.outputs.keeper)
+        (StopsBefore ending (GoesOn false))) }
 {
     let is_cut = is_cut_in(execution.rt.alloc(), devices);
     taken_back(execution, is_cut, devices)
@@ -114,6 +123,10 @@ pub(crate) fn inside_taken_back<'x, T: Threads + Wait + Sync, R: Read, W: Write,
     ensures taken { IfOk result (λ taken. NamesFile execution.now.opened.now.loaded →
         Leads (store_of devices.old.outputs.keeper) (store_of devices.new.outputs.keeper)
         (TakesBackInside taken)) }
+    ensures stops { IfErr result (λ code. (ending : Ending) → code ≡ status_of ending →
+        NamesFile execution.now.opened.now.loaded →
+        Leads (store_of devices.old.outputs.keeper) (store_of devices.new.outputs.keeper)
+        (StopsBefore ending GoesBackInside)) }
 {
     let is_cut = is_cut_inside(execution.rt.alloc(), devices);
     taken_back(execution, is_cut, devices)
@@ -165,6 +178,15 @@ fn taken_back<'x, T: Threads + Wait + Sync, R: Read, W: Write, F: Write>(
     ensures taken { IfOk result (λ taken. NamesFile execution.now.opened.now.loaded →
         Leads (store_of devices.old.outputs.keeper) (store_of devices.new.outputs.keeper)
         (IsTaken taken)) }
+    ensures tried { IfErr result (λ code. HasHalted code → is_cut ≡ Ok true) }
+    ensures halted { IfErr result (λ code. HasHalted code →
+        NamesFile execution.now.opened.now.loaded →
+        Leads (store_of devices.old.outputs.keeper) (store_of devices.new.outputs.keeper)
+        (Halts false)) }
+    ensures refused { IfErr result (λ code. code ≡ 1 →
+        NamesFile execution.now.opened.now.loaded →
+        Leads (store_of devices.old.outputs.keeper) (store_of devices.new.outputs.keeper)
+        (IsRefusedOn false)) }
 {
     match is_cut {
         Ok(true) => {}
@@ -193,9 +215,10 @@ fn serve_restart<'x, T: Threads + Wait + Sync, R: Read, W: Write, F: Write>(
 ) -> u8
     requires reader { HasFailed devices.old.reader → ⊥ }
     requires writer { HasFailed devices.old.outputs.writer → ⊥ }
-    ensures done { result ≡ 0 → NamesFile execution.now.opened.now.loaded →
+    ensures ended { (ending : Ending) → result ≡ status_of ending →
+        NamesFile execution.now.opened.now.loaded →
         Leads (store_of devices.old.outputs.keeper) (store_of devices.new.outputs.keeper)
-        (Restarts (map string_bytes request.now.names.items)) }
+        (RestartsBy ending (map string_bytes request.now.names.items)) }
 {
     devices.outputs.keeper.store.begin_steps();
     match texts_in(execution.rt.alloc(), devices) {
@@ -218,11 +241,12 @@ fn restart_on<'x, T: Threads + Wait + Sync, R: Read, W: Write, F: Write>(
 ) -> u8
     requires reader { HasFailed devices.old.reader → ⊥ }
     requires writer { HasFailed devices.old.outputs.writer → ⊥ }
-    ensures done { result ≡ 0 → NamesFile execution.now.opened.now.loaded →
+    ensures ended { (ending : Ending) → result ≡ status_of ending →
+        NamesFile execution.now.opened.now.loaded →
         (was : List ℕ) → HoldsFor None (store_of devices.old.outputs.keeper) was →
         IsPresent was texts.now.database.items texts.now.session.items →
         LeadsOn was (store_of devices.new.outputs.keeper)
-        (Restarts (map string_bytes request.now.names.items)) }
+        (RestartsBy ending (map string_bytes request.now.names.items)) }
 {
     let service = Service::Restart(&request.names);
     let live = LiveFile::Text(&texts.session);
@@ -237,9 +261,9 @@ fn carry_over<'x, T: Threads + Wait + Sync, R: Read, W: Write, F: Write>(
 ) -> u8
     requires reader { HasFailed devices.old.reader → ⊥ }
     requires writer { HasFailed devices.old.outputs.writer → ⊥ }
-    ensures done { result ≡ 0 → IsKeptUpdate request.now →
+    ensures ended { (ending : Ending) → result ≡ status_of ending → IsKeptUpdate request.now →
         Leads (store_of devices.old.outputs.keeper) (store_of devices.new.outputs.keeper)
-        (CarriesBy (bytes_of execution.now.opened.now.loaded.new)
+        (CarriesBy ending (bytes_of execution.now.opened.now.loaded.new)
         (conversions_of request.now.conversions.items)) }
 {
     let opened = execution.opened;
@@ -276,13 +300,13 @@ fn carry_texts<'x, T: Threads + Wait + Sync, R: Read, W: Write, F: Write>(
     devices: &mut Devices<R, W, F, LiveStore<'x>>,
 ) -> u8
     requires writer { HasFailed devices.old.outputs.writer → ⊥ }
-    ensures done { result ≡ 0 → IsKeptUpdate request.now →
+    ensures ended { (ending : Ending) → result ≡ status_of ending → IsKeptUpdate request.now →
         IsToUpdate (bytes_of execution.now.opened.now.loaded.new)
         (conversions_of request.now.conversions.items) (store_of devices.old.outputs.keeper) →
         (was : List ℕ) → history_held (store_of devices.old.outputs.keeper) ≡ Some was →
         IsPresent was database.now session.now →
         LeadsOn was (store_of devices.new.outputs.keeper)
-        (CarriesBy (bytes_of execution.now.opened.now.loaded.new)
+        (CarriesBy ending (bytes_of execution.now.opened.now.loaded.new)
         (conversions_of request.now.conversions.items)) }
 {
     if is_up_to_date(execution.opened, request.conversions.as_slice(), database) {
@@ -304,7 +328,9 @@ fn is_up_to_date(opened: &Opened<'_>, list: &[Conversion<'_>], database: &[u8]) 
 // Turns the state to which a command of several steps has come into a stop, if all is done. Returns
 // the status.
 fn settled<R, W, F: Write>(code: u8, devices: &mut Devices<R, W, F, LiveStore<'_>>) -> u8
-    ensures code { result ≡ 0 → code ≡ 0 }
+    ensures code { (ending : Ending) → result ≡ status_of ending → code ≡ status_of ending }
+    ensures halted { HasHalted result →
+        store_of devices.new.outputs.keeper ≡ store_of devices.old.outputs.keeper }
     ensures done { result ≡ 0 →
         Leads (store_of devices.old.outputs.keeper) (store_of devices.new.outputs.keeper)
         IsSettled }

@@ -11,6 +11,7 @@ ghost use Rattle.rc_cli.specs.Session.{asked_with, dealt};
 ghost use Rattle.rc_cli.specs.SessionFaults.{IsEndTold, IsUnserved, IsUnspelled, reading_fault};
 ghost use Rattle.rc_cli.specs.SessionFaults.{serve_word, session_end, status_of};
 ghost use Rattle.rc_cli.specs.Storing.{store_of};
+ghost use Rattle.rc_serve.specs.declared.ending.Ending.{Ending};
 ghost use Rattle.rc_serve.specs.Faults.{IsServeFault};
 ghost use Rattle.rc_serve.specs.declared.fault.ServeFault.TheVariants.{Read as Unread};
 
@@ -65,9 +66,10 @@ pub fn launch<T: Threads + Wait + Sync, R: Read, W: Write, F: Write, S: Store, L
         (S.failed (store_of devices.new.outputs.keeper))
         (F.contents devices.old.faults) (F.contents devices.new.faults) }
 
-    // With status 0, one line or a restart has led the store so.
-    ensures led { result ≡ 0 → LeadsLaunched S.put service.entry
-        (asked_with (session_ask_of request.now) (bytes_of base.entry) live.entry)
+    // With status 0, 1 or 2, one line or a restart ended as that says, and has led the store so.
+    ensures led { (ending : Ending) → result ≡ status_of ending →
+        LeadsLaunched S.put service.entry
+        (asked_with (session_ask_of request.now) (bytes_of base.entry) live.entry) ending
         (R.remaining (inner_of devices.old.reader)) (R.remaining (inner_of devices.new.reader))
         (store_of devices.old.outputs.keeper) (store_of devices.new.outputs.keeper) }
 

@@ -1,7 +1,6 @@
 //! A restart: services go down with all that depends on them, and what went down comes up again.
 ghost use Rattle.std.specs.Prelude.{◌≡◌, ◌≢◌, ◌↔◌, None, false, length, map, string_bytes, IfErr};
-ghost use Rattle.std.specs.Prelude.{IsTrue, Ok, OnOk};
-ghost use Rattle.rc_serve.specs.declared.ending.Ending.TheVariants.{Done};
+ghost use Rattle.std.specs.Prelude.{IfOk, IsTrue, OnOk};
 ghost use Rattle.rc_serve.specs.Ending.{IsDoneAs};
 ghost use Rattle.rc_serve.specs.Faults.{IsServeFault};
 ghost use Rattle.rc_streams.specs.Noting.{HasFailed, inner_of};
@@ -59,9 +58,9 @@ pub(crate) fn restart_in<T: Threads + Wait + Sync, W: Write, G: Gate, S: Store, 
         session.old }
     ensures fault { IfErr result (IsServeFault ⊥ (HasFailed outputs.new.writer)
         (((session_ask_of request.now).live ≢ None) × S.failed (store_of outputs.new.keeper))) }
-    ensures led { result ≡ Ok Done → LeadsBack S.put (session_ask_of request.now).live
+    ensures led { IfOk result (λ ending. LeadsBack S.put (session_ask_of request.now).live ending
         (lowering false (map string_bytes names.now)) session.old.database session.old.line
-        (store_of outputs.old.keeper) (store_of outputs.new.keeper) }
+        (store_of outputs.old.keeper) (store_of outputs.new.keeper)) }
 {
     let Ok(before) = session.live().copy(host.alloc) else {
         return Err(ServeFault::Memory);
@@ -98,9 +97,9 @@ fn serve_steps<T: Threads + Wait + Sync, W: Write, G: Gate, S: Store, L>(
         session.old }
     ensures fault { IfErr result (IsServeFault ⊥ (HasFailed outputs.new.writer)
         (((session_ask_of request.now).live ≢ None) × S.failed (store_of outputs.new.keeper))) }
-    ensures led { result ≡ Ok Done → LeadsBack S.put (session_ask_of request.now).live
+    ensures led { IfOk result (λ ending. LeadsBack S.put (session_ask_of request.now).live ending
         (Said (saying_of first.now.line)) session.old.database session.old.line
-        (store_of outputs.old.keeper) (store_of outputs.new.keeper) }
+        (store_of outputs.old.keeper) (store_of outputs.new.keeper)) }
 {
     let _states = session.journal();
     let lowered = match line_once(host, request, session, gate, &first.line, outputs) {

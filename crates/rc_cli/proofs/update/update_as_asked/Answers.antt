@@ -1,5 +1,8 @@
-use Rattle.std.proofs.Common.{Err, inl, inr, refl}
-use Rattle.rc_cli.proofs.PuttingLemmas.{told_done, told_failed}
+use Rattle.std.proofs.Common.{◌≡◌, Err, inl, inr, refl}
+use Rattle.rc_args.specs.UpdateAsked.{update_ask_of}
+use Rattle.rc_cli.specs.Storing.{store_of}
+use Rattle.rc_cli.specs.UpdateEnds.{LeadsOn}
+use Rattle.rc_cli.proofs.PuttingLemmas.{told_ended, told_refused}
 use Rattle.rc_cli.proofs.update.update_as_asked.Goals as goal
 
 pub returns-in-Err-clause-ended : goal.returns-in-Err-clause-ended
@@ -10,8 +13,8 @@ returns-in-Err-clause-ended g c = (
 )
 
 pub returns-in-Err-clause-led : goal.returns-in-Err-clause-led
-returns-in-Err-clause-led g c zero =
-    absurd (told_failed c.in-Err.fault _ _ _ c.tell_ended.ensures zero)
+returns-in-Err-clause-led g c ending same =
+    inl ((told_refused c.in-Err.fault _ _ _ ending c.tell_ended.ensures same).0, refl)
 
 pub returns-in-Err-spelled-clause-ended : goal.returns-in-Err-spelled-clause-ended
 returns-in-Err-spelled-clause-ended g c =
@@ -28,8 +31,10 @@ returns-in-Err-spelled-clause-ended g c =
     )
 
 pub returns-in-Err-spelled-clause-led : goal.returns-in-Err-spelled-clause-led
-returns-in-Err-spelled-clause-led g c zero =
-    absurd (told_failed c.in-Err-spelled.fault _ _ _ c.tell_ended-in-Err-spelled.ensures zero)
+returns-in-Err-spelled-clause-led g c ending same = inl (
+  (told_refused c.in-Err-spelled.fault _ _ _ ending c.tell_ended-in-Err-spelled.ensures same).0,
+  refl,
+)
 
 pub returns-clause-ended : goal.returns-clause-ended
 returns-clause-ended g c =
@@ -47,13 +52,23 @@ returns-clause-ended g c =
     )
 
 pub returns-clause-led : goal.returns-clause-led
-returns-clause-led g c zero =
+returns-clause-led g c ending same =
+    let was = store_of c.args.devices.now.outputs.keeper in
+    let is = store_of c.update_on-ended.new.outputs.keeper in
     let old = c.in-Ok.ensures.spelled in
-    let new = c.in-Ok-spelled.ensures.spelled in (
-      c.in-Ok.from,
-      c.in-Ok-spelled.to,
-      (old.0, old.1, old.2, refl),
-      (new.0, new.1, new.2, refl),
-      c.update_on-ended.ensures.led
-          (told_done c.update_on-ended.result _ _ _ c.tell_ended-2.ensures zero),
-    )
+    let new = c.in-Ok-spelled.ensures.spelled in
+    elim (told_ended c.update_on-ended.result _ _ _ ending
+    (λ e. LeadsOn g.S.Store.put g.S.Store.entered (update_ask_of c.args.request.now) c.args.live e
+    c.in-Ok.from c.in-Ok-spelled.to was is)
+    (is ≡ was) c.tell_ended-2.ensures same c.update_on-ended.ensures.led
+    c.update_on-ended.ensures.alone) [
+      | inl refused ↦ inl refused
+      | inr leads ↦
+          inr (
+            c.in-Ok.from,
+            c.in-Ok-spelled.to,
+            (old.0, old.1, old.2, refl),
+            (new.0, new.1, new.2, refl),
+            leads,
+          )
+    ]

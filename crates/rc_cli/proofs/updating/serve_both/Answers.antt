@@ -6,12 +6,12 @@ use Rattle.std.proofs.Common.{ℕ, List, Option, inl, subst}
 use Rattle.rc_streams.specs.Noting.{inner_of}
 use Rattle.rc_script.specs.Says.{saying_of}
 use Rattle.rc_serve.specs.Ending.{IsDoneAs}
-use Rattle.rc_serve.specs.declared.ending.Ending.TheVariants.{Refused, Hindered}
+use Rattle.rc_serve.specs.declared.ending.Ending.TheVariants.{Done, Refused, Hindered}
 use Rattle.rc_args.specs.OnceAsked.{Said}
 use Rattle.rc_args.specs.SessionAsked.{session_ask_of}
 use Rattle.rc_cli.specs.Once.{ServedOnce}
 use Rattle.rc_cli.specs.Storing.{store_of}
-use Rattle.rc_cli.proofs.PuttingLemmas.{both_lead, line_done}
+use Rattle.rc_cli.proofs.PuttingLemmas.{both_lead, line_ended}
 use Rattle.rc_cli.proofs.UpdateLemmas.{both_served, fault_behind, first_alone}
 use Rattle.rc_cli.proofs.updating.serve_both.Goals as goal
 
@@ -61,7 +61,7 @@ returns-in-Ok-Done-clause-served g c =
     c.enter.ensures.same c.line_once-in-Ok-Done.ensures.served)
 
 pub returns-in-Ok-Done-clause-led : goal.returns-in-Ok-Done-clause-led
-returns-in-Ok-Done-clause-led g c =
+returns-in-Ok-Done-clause-led g c lowers raises =
     let path = (session_ask_of c.args.request.now).live in
     let workers = c.args.request.now.workers in
     let lowering = saying_of c.args.ahead.now.lowering in
@@ -70,12 +70,12 @@ returns-in-Ok-Done-clause-led g c =
     c.line_once-in-Ok-Done.new.session (store_of c.args.outputs.now.keeper)
     (store_of c.line_once.new.outputs.keeper) (store_of c.enter.new.self)
     (store_of c.line_once-in-Ok-Done.new.outputs.keeper) (
-      line_done workers (g.G.Gate.answers c.args.gates.now.lowers)
+      line_ended workers (g.G.Gate.answers c.args.gates.now.lowers)
           (g.G.Gate.gives c.args.gates.now.lowers) path _ _ (Said lowering) _ _ c.args.from.now
-          c.line_once.new.session c.in-Ok-Done.field-0 c.in-Ok-Done.field-0-is
+          c.line_once.new.session c.in-Ok-Done.field-0 Done c.in-Ok-Done.field-0-is
           c.in-Ok-Done.ensures.served,
       c.in-Ok-Done.ensures.led,
-    ) c.enter.ensures.led workers
+    ) c.enter.ensures.led raises workers
     (g.G.Gate.answers c.args.gates.now.raises) (g.G.Gate.gives c.args.gates.now.raises) _ _ _ _
     c.behind.result c.line_once-in-Ok-Done.result c.behind.ensures
     c.line_once-in-Ok-Done.ensures.served c.line_once-in-Ok-Done.ensures.led
@@ -92,6 +92,13 @@ returns-in-Ok-Refused-clause-served g c =
     c.in-Ok-Refused.field-0 Refused
     c.in-Ok-Refused.field-0-is (λ bad. cc) c.in-Ok-Refused.ensures.served
 
+pub returns-in-Ok-Refused-clause-led : goal.returns-in-Ok-Refused-clause-led
+returns-in-Ok-Refused-clause-led g c lowers raises =
+    absurd (lowers (line_ended c.args.request.now.workers
+    (g.G.Gate.answers c.args.gates.now.lowers) (g.G.Gate.gives c.args.gates.now.lowers) _ _ _
+    (Said (saying_of c.args.ahead.now.lowering)) _ _ c.args.from.now c.line_once.new.session
+    c.in-Ok-Refused.field-0 Refused c.in-Ok-Refused.field-0-is c.in-Ok-Refused.ensures.served).0)
+
 pub returns-in-Ok-Refused-clause-fault : goal.returns-in-Ok-Refused-clause-fault
 returns-in-Ok-Refused-clause-fault g c = tt
 
@@ -101,6 +108,19 @@ returns-in-Ok-Hindered-clause-served g c =
     (g.W.Write.contents (inner_of c.line_once.new.outputs.writer)) _ _ _ c.line_once.new.session
     c.in-Ok-Hindered.field-0 Hindered
     c.in-Ok-Hindered.field-0-is (λ bad. cc) c.in-Ok-Hindered.ensures.served
+
+pub returns-in-Ok-Hindered-clause-led : goal.returns-in-Ok-Hindered-clause-led
+returns-in-Ok-Hindered-clause-led g c lowers raises = inl (
+  c.line_once.new.session.line,
+  (
+    line_ended c.args.request.now.workers (g.G.Gate.answers c.args.gates.now.lowers)
+        (g.G.Gate.gives c.args.gates.now.lowers) _ _ _
+        (Said (saying_of c.args.ahead.now.lowering)) _ _ c.args.from.now c.line_once.new.session
+        c.in-Ok-Hindered.field-0 Hindered c.in-Ok-Hindered.field-0-is
+        c.in-Ok-Hindered.ensures.served,
+    c.in-Ok-Hindered.ensures.led,
+  ),
+)
 
 pub returns-in-Ok-Hindered-clause-fault : goal.returns-in-Ok-Hindered-clause-fault
 returns-in-Ok-Hindered-clause-fault g c = tt

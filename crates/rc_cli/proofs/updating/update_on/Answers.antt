@@ -7,12 +7,11 @@ use Rattle.rc_args.specs.SessionAsked.{session_ask_of}
 use Rattle.rc_args.specs.UpdateAsked.{update_ask_of}
 use Rattle.rc_cli.specs.Filing.{file_named}
 use Rattle.rc_cli.specs.Storing.{store_of}
-use Rattle.rc_cli.specs.declared.sessions.session_fault.SessionFault.TheVariants.{Failed, Unknown}
 use Rattle.rc_cli.proofs.LaunchLemmas.{past_found}
 use Rattle.rc_cli.proofs.SessionLemmas.{fault_wider}
 use Rattle.rc_cli.specs.Updating.{making_on}
 use Rattle.rc_cli.proofs.ControlledLemmas.{ahead_unready, controlled_ahead}
-use Rattle.rc_cli.proofs.PuttingLemmas.{done_so, leads_from, leads_on, never_done}
+use Rattle.rc_cli.proofs.PuttingLemmas.{leads_from, leads_on, lowers_soundly, raises_soundly}
 use Rattle.rc_cli.proofs.UpdateLemmas.{begin_unready, begun_closed, gates_unready, runs_update}
 use Rattle.rc_cli.proofs.UpdateLemmas.{stands_closed, updated_as}
 use Rattle.rc_cli.proofs.updating.update_on.Goals as goal
@@ -20,7 +19,8 @@ use Rattle.rc_cli.proofs.updating.update_on.Goals as goal
 pub returns-in-Some : goal.returns-in-Some
 returns-in-Some g c = record {
   ended = inl (inl c.in-Some.ensures, refl, refl);
-  led = λ done. absurd (never_done (Unknown c.in-Some.name) done);
+  led = tt;
+  alone = λ refused. refl;
 }
 
 pub returns-in-Err : goal.returns-in-Err
@@ -31,7 +31,8 @@ returns-in-Err g c = record {
     refl,
     refl,
   );
-  led = λ done. absurd (never_done c.in-Err.fault done);
+  led = tt;
+  alone = λ refused. refl;
 }
 
 pub returns-in-Err-begin : goal.returns-in-Err-begin
@@ -47,7 +48,8 @@ returns-in-Err-begin g c = record {
         refl,
         refl,
       );
-  led = λ done. absurd (never_done c.in-Err-begin.fault done);
+  led = tt;
+  alone = λ refused. refl;
 }
 
 pub returns-in-Err-ahead_controlled : goal.returns-in-Err-ahead_controlled
@@ -63,7 +65,8 @@ returns-in-Err-ahead_controlled g c = record {
         refl,
         refl,
       );
-  led = λ done. absurd (never_done c.in-Err-ahead_controlled.fault done);
+  led = tt;
+  alone = λ refused. refl;
 }
 
 pub returns-in-Ok-ended : goal.returns-in-Ok-ended
@@ -86,16 +89,21 @@ returns-in-Ok-ended g c = record {
             (updated_as (Ok c.in-Ok-ended.ending) _ _ _ _ _ _ _ ask _ c.in-Ok-begin.from
             c.args.new ahead c.ahead_controlled.ensures.same there c.in-Ok-ended.ensures.served),
       );
-  led = λ done.
+  led =
       let ask = update_ask_of c.args.request.now in
       let was = store_of c.args.outputs.now.keeper in
       let is = store_of c.serve_both-ended.new.outputs.keeper in
-      leads_on g.S.Store.put g.S.Store.entered ask c.args.new was is c.args.live c.args.old
-      c.in-Ok-begin.from c.in-Ok-begin.ensures.begun
-      (leads_from g.S.Store.put g.S.Store.entered ask c.args.new was is _ c.in-Ok-begin.from
-      c.in-Ok-ahead_controlled.ahead c.ahead_controlled.ensures.same
-      c.in-Ok-ahead_controlled.ensures.ahead
-      (c.in-Ok-ended.ensures.led (done_so c.in-Ok-ended.ending done)));
+      let there = c.in-Ok-ahead_controlled.ensures.ahead in
+      let ahead = c.in-Ok-ahead_controlled.ahead in
+      let same = c.ahead_controlled.ensures.same in
+      leads_on g.S.Store.put g.S.Store.entered ask c.in-Ok-ended.ending c.args.new was is
+      c.args.live c.args.old c.in-Ok-begin.from c.in-Ok-begin.ensures.begun
+      (leads_from g.S.Store.put g.S.Store.entered ask c.in-Ok-ended.ending c.args.new was is _
+      c.in-Ok-begin.from ahead same there
+      (c.in-Ok-ended.ensures.led
+      (lowers_soundly ask c.in-Ok-begin.from c.args.new ahead there _ same)
+      (raises_soundly ask c.in-Ok-begin.from c.args.new ahead there)));
+  alone = tt;
 }
 
 pub returns-in-Err-ended : goal.returns-in-Err-ended
@@ -121,7 +129,8 @@ returns-in-Err-ended g c = record {
             (updated_as (Err c.in-Err-ended.fault) _ _ _ _ _ _ _ ask _ c.in-Ok-begin.from
             c.args.new ahead c.ahead_controlled.ensures.same there c.in-Err-ended.ensures.served),
       );
-  led = λ done. absurd (never_done (Failed c.in-Err-ended.fault) done);
+  led = tt;
+  alone = λ refused. absurd refused;
 }
 
 pub ahead_controlled-requires-clause-closed : goal.ahead_controlled-requires-clause-closed

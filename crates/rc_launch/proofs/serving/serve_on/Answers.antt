@@ -21,11 +21,11 @@ returns-clause-ended g c =
     (g.F.Write.contents is.faults)) c.session.ensures c.launch.ensures.ended
 
 pub returns-clause-led : goal.returns-clause-led
-returns-clause-led g c done =
+returns-clause-led g c ending same =
     let was = c.args.devices.now in
     let is = c.launch.new.devices in
     subst (λ (request : SessionRequest). LeadsLaunched g.S.Store.put c.args.service
-    (asked_with (session_ask_of request) (Some c.args.base.now) c.args.live)
+    (asked_with (session_ask_of request) (Some c.args.base.now) c.args.live) ending
     (g.R.Read.remaining (inner_of was.reader)) (g.R.Read.remaining (inner_of is.reader))
     (store_of was.outputs.keeper) (store_of is.outputs.keeper)) c.session.ensures
-    (c.launch.ensures.led done)
+    (c.launch.ensures.led ending same)

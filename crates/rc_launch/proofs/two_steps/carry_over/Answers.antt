@@ -10,11 +10,11 @@ use Rattle.rc_launch.proofs.two_steps.carry_over.Goals as goal
 
 pub returns-in-Some-Ok : goal.returns-in-Some-Ok
 returns-in-Some-Ok g c = record {
-  done = λ done kept was held.
+  ended = λ ending same kept was held.
       let there = ap history_in c.begin_update.ensures.held ∙ held in
       let new = c.args.execution.now.opened.now.loaded.new in
       let store = c.begin_update.new.self in
-      c.carry_texts-code.ensures.done done kept
+      c.carry_texts-code.ensures.ended ending same kept
       (subst (λ (list : List Conversion). IsToUpdate (bytes_of new) (conversions_of list) store)
       c.deref.ensures.value
       (is_to_update c.new_base.result c.in-Some.new new store.next c.deref.result.now store

@@ -1,7 +1,7 @@
 use Rattle.rc_launch.specs.TwoSteps.{GoesBackInside}
 use Rattle.rc_cli.specs.Storing.{store_of}
 use Rattle.rc_launch.specs.Loading.{NamesFile}
-use Rattle.rc_launch.proofs.StepLemmas.{taken_by}
+use Rattle.rc_launch.proofs.StepLemmas.{stops_before, taken_by}
 use Rattle.rc_launch.proofs.two_steps.inside_taken_back.Goals as goal
 
 pub returns-clause-taken : goal.returns-clause-taken
@@ -10,3 +10,11 @@ returns-clause-taken g c =
     (NamesFile c.args.execution.now.opened.now.loaded) (GoesBackInside)
     (store_of c.args.devices.now.outputs.keeper) (store_of c.taken_back.new.devices.outputs.keeper)
     c.taken_back.ensures.cut c.is_cut_inside-is_cut.ensures c.taken_back.ensures.taken
+
+pub returns-clause-stops : goal.returns-clause-stops
+returns-clause-stops g c =
+    stops_before c.is_cut_inside-is_cut.result (NamesFile c.args.execution.now.opened.now.loaded)
+    GoesBackInside (store_of c.args.devices.now.outputs.keeper)
+    (store_of c.taken_back.new.devices.outputs.keeper) c.is_cut_inside-is_cut.ensures
+    c.taken_back.result c.taken_back.ensures.fault c.taken_back.ensures.tried
+    c.taken_back.ensures.halted c.taken_back.ensures.refused

@@ -11,13 +11,14 @@ use Rattle.rc_launch.proofs.two_steps.restart_on.Goals as goal
 
 pub returns : goal.returns
 returns g c = record {
-  done = λ done named was holds present.
+  ended = λ ending same named was holds present.
       restarts (Restart c.deref.result) (map string_bytes c.args.request.now.names.items)
-      (session_ask_of (session_in c.args.execution.now.opened.now.loaded)) c.deref-3.result.now
+      (session_ask_of (session_in c.args.execution.now.opened.now.loaded)) ending
+      c.deref-3.result.now
       c.deref-2.result was (Text c.deref-2.result) _ _ (store_of c.args.devices.now.outputs.keeper)
       (store_of c.serve_on.new.devices.outputs.keeper)
       (ap (map string_bytes) c.deref.ensures.value) named refl
       (present_as was c.deref-3.result.now c.deref-2.result.now c.args.texts.now.database.items
       c.args.texts.now.session.items present c.deref-3.ensures.value c.deref-2.ensures.value) holds
-      (c.serve_on.ensures.led done);
+      (c.serve_on.ensures.led ending same);
 }

@@ -1,31 +1,49 @@
+use Rattle.std.proofs.Common.{◌≡◌, Bool, ap, false, subst, sym}
 use Rattle.rc_cli.specs.Storing.{store_of}
+use Rattle.rc_historytext.specs.Travelling.{GoesOn}
+use Rattle.rc_serve.specs.declared.ending.Ending.{Ending}
 use Rattle.rc_update.specs.Conversions.{conversions_of}
 use Rattle.rc_launch.specs.Loading.{NamesFile, bytes_of}
-use Rattle.rc_launch.specs.TwoSteps.{CarriesBy, TakesBack}
-use Rattle.rc_launch.proofs.HaltLemmas.{done_code}
-use Rattle.rc_launch.proofs.StepLemmas.{leads_behind}
+use Rattle.rc_launch.specs.TwoSteps.{CarriesBy, StopsBefore, TakesBack, ending_after}
+use Rattle.rc_launch.proofs.StepLemmas.{behind_code, ends_behind, leads_stopped}
 use Rattle.rc_launch.proofs.two_steps.update.Goals as goal
 
 pub returns-in-Ok-true : goal.returns-in-Ok-true
 returns-in-Ok-true g c = record {
-  done = λ done named kept.
+  ended = λ ending same named kept.
       let loaded = c.args.execution.now.opened.now.loaded in
-      leads_behind _ (NamesFile loaded) TakesBack
-      (CarriesBy (bytes_of loaded.new) (conversions_of c.args.request.now.conversions.items))
+      let last = behind_code _ _ ending c.hindered.ensures same in
+      ends_behind _ (NamesFile loaded) TakesBack
+      (λ (e : Ending). CarriesBy e (bytes_of loaded.new)
+      (conversions_of c.args.request.now.conversions.items))
+      (StopsBefore ending (GoesOn false)) ending last.0
       (store_of c.args.devices.now.outputs.keeper)
       (store_of c.all_taken_back.new.devices.outputs.keeper)
       (store_of c.carry_over.new.devices.outputs.keeper) c.in-Ok-true.ensures.taken named
-      (c.carry_over.ensures.done (done_code _ _ c.hindered.ensures done) kept);
+      (subst (λ (b : Bool). ending ≡ ending_after b last.0) (sym c.in-Ok-true.field-0-test) last.2)
+      (c.carry_over.ensures.ended last.0 last.1 kept);
 }
 
 pub returns-in-Ok-false : goal.returns-in-Ok-false
 returns-in-Ok-false g c = record {
-  done = λ done named kept.
+  ended = λ ending same named kept.
       let loaded = c.args.execution.now.opened.now.loaded in
-      leads_behind _ (NamesFile loaded) TakesBack
-      (CarriesBy (bytes_of loaded.new) (conversions_of c.args.request.now.conversions.items))
+      ends_behind _ (NamesFile loaded) TakesBack
+      (λ (e : Ending). CarriesBy e (bytes_of loaded.new)
+      (conversions_of c.args.request.now.conversions.items))
+      (StopsBefore ending (GoesOn false)) ending ending
       (store_of c.args.devices.now.outputs.keeper)
       (store_of c.all_taken_back.new.devices.outputs.keeper)
       (store_of c.carry_over-in-Ok-false.new.devices.outputs.keeper) c.in-Ok-false.ensures.taken
-      named (c.carry_over-in-Ok-false.ensures.done done kept);
+      named
+      (ap (λ (b : Bool). ending_after b ending) (sym c.in-Ok-false.field-0-test))
+      (c.carry_over-in-Ok-false.ensures.ended ending same kept);
+}
+
+pub returns-in-Err : goal.returns-in-Err
+returns-in-Err g c = record {
+  ended = λ ending same named kept.
+      leads_stopped _ _ (store_of c.args.devices.now.outputs.keeper)
+      (store_of c.all_taken_back.new.devices.outputs.keeper)
+      (c.in-Err.ensures.stops ending same named);
 }

@@ -3,8 +3,9 @@
 -- Each answer names the outcome that the definition asks for and joins what the calls on that way
 -- promise. The lemmas of LaunchLemmas do that by the way, those of LeadingLemmas for what the store
 -- holds.
-use Rattle.std.proofs.Common.{◌≡◌, ◌∙◌, ℕ, List, [], Option, Some, Bor, Err, ap, inl, inr, refl}
+use Rattle.std.proofs.Common.{◌≡◌, ◌∙◌, ℕ, List, Option, Some, Bor, Err, ap, inl, inr, refl}
 use Rattle.std.proofs.Common.{subst, sym}
+use Rattle.std.proofs.lemmas.Result.{IfOk-at_ok}
 use Rattle.rc_streams.specs.Noting.{inner_of}
 use Rattle.rc_runner.specs.Gates.{gate_answers, gate_gives}
 use Rattle.rc_dbtext.specs.Base.{Spells, bytes_of}
@@ -16,9 +17,9 @@ use Rattle.rc_cli.specs.declared.sessions.session_fault.SessionFault.TheVariants
 use Rattle.rc_cli.proofs.SessionLemmas.{fault_wider}
 use Rattle.rc_cli.proofs.LaunchLemmas.{err_as, opens_alone, opens_based, opens_rest, served_ends}
 use Rattle.rc_cli.proofs.LaunchLemmas.{taken_based, told_read, unready_ends, unspelled_ends}
-use Rattle.rc_cli.proofs.LeadingLemmas.{end_done, launch_leads, once_leads}
+use Rattle.rc_cli.proofs.LeadingLemmas.{end_told, launch_alone, launch_leads}
 use Rattle.rc_cli.proofs.OnceLemmas.{fault_with}
-use Rattle.rc_cli.proofs.PuttingLemmas.{told_done, told_failed}
+use Rattle.rc_cli.proofs.PuttingLemmas.{once_leads}
 use Rattle.rc_cli.proofs.ServingLemmas.{named_some}
 use Rattle.rc_cli.proofs.sessions.launching.launch.Goals as goal
 use Rattle.rc_cli.proofs.sessions.launching.launch.Goals.{in-Line, in-Restart}
@@ -182,20 +183,28 @@ returns-clause-taken g c = elim c.match-service.branch [
 ]
 
 pub returns-in-Err-clause-led : goal.returns-in-Err-clause-led
-returns-in-Err-clause-led g c zero =
-    absurd (told_failed (Failed c.in-Err.fault) _ _ _ c.tell_served.ensures zero)
+returns-in-Err-clause-led g c ending same =
+    launch_alone g.S.Store.put c.args.service
+    (asked_with (session_ask_of c.args.request.now) (bytes_of c.args.base) c.args.live) ending _ _ _
+    (Failed c.in-Err.fault) _ _ _
+    c.tell_served.ensures same
 
 pub returns-in-Err-spelled-clause-led : goal.returns-in-Err-spelled-clause-led
-returns-in-Err-spelled-clause-led g c zero =
-    absurd (told_failed c.in-Err-spelled.fault _ _ _ c.tell_ended.ensures zero)
+returns-in-Err-spelled-clause-led g c ending same =
+    launch_alone g.S.Store.put c.args.service
+    (asked_with (session_ask_of c.args.request.now) (bytes_of c.args.base) c.args.live) ending _ _ _
+    c.in-Err-spelled.fault _ _ _
+    c.tell_ended.ensures same
 
 pub returns-in-Err-begin_gated-clause-led : goal.returns-in-Err-begin_gated-clause-led
-returns-in-Err-begin_gated-clause-led g c zero =
-    absurd (told_failed c.in-Err-begin_gated.fault _ _ _
-    c.tell_ended-in-Err-begin_gated.ensures zero)
+returns-in-Err-begin_gated-clause-led g c ending same =
+    launch_alone g.S.Store.put c.args.service
+    (asked_with (session_ask_of c.args.request.now) (bytes_of c.args.base) c.args.live) ending _ _ _
+    c.in-Err-begin_gated.fault _ _ _
+    c.tell_ended-in-Err-begin_gated.ensures same
 
 pub returns-clause-led : goal.returns-clause-led
-returns-clause-led g c zero =
+returns-clause-led g c ending same =
     let base = bytes_of c.args.base in
     let asked = asked_with (session_ask_of c.args.request.now) base c.args.live in
     let path = asked.ask.live in
@@ -212,36 +221,36 @@ returns-clause-led g c zero =
     let gate = c.in-Ok-begin_gated.begun.0 in
     let session = c.in-Ok-begin_gated.begun.1 in
     let was = store_of c.args.devices.now.outputs.keeper in
-    let done = end_done c.match-service.served
-    (told_done (session_end c.match-service.served) _ _ _ c.tell_served-2.ensures zero) in
+    let ended = end_told c.match-service.served _ _ _ ending c.tell_served-2.ensures same in
     elim c.match-service.branch [
       | in-Line w ↦
           let is = store_of w.serve_once-served.new.outputs.keeper in
-          rw w.devices-is (launch_leads g.S.Store.put c.args.service asked before after alone.0
-          alone.0 d session was is alone.1 c.in-Ok-begin_gated.ensures.begun
+          rw w.devices-is (launch_leads g.S.Store.put c.args.service asked ending before after
+          alone.0 alone.0 d session was is alone.1 c.in-Ok-begin_gated.ensures.begun
           (rw w.in-Line.is (
             w.serve_once-served.new.session.line,
             once_leads g.S.Store.put path c.args.request.now.workers (gate_answers gate)
                 (gate_gives gate) _ _ _ _ _ session w.serve_once-served.new.session was is
-                w.serve_once-served.result (sym w.served-is ∙ done)
+                ending w.serve_once-served.result (sym w.served-is ∙ ended)
                 w.serve_once-served.ensures.served
                 w.serve_once-served.ensures.led,
           )))
       | in-Restart w ↦
           let is = store_of w.restart_in-served.new.outputs.keeper in
-          rw w.devices-is (launch_leads g.S.Store.put c.args.service asked before after alone.0
-          alone.0 d session was is alone.1 c.in-Ok-begin_gated.ensures.begun
-          (rw w.in-Restart.is (w.restart_in-served.ensures.led (sym w.served-is ∙ done))))
+          rw w.devices-is (launch_leads g.S.Store.put c.args.service asked ending before after
+          alone.0 alone.0 d session was is alone.1 c.in-Ok-begin_gated.ensures.begun
+          (rw w.in-Restart.is (IfOk-at_ok _ (sym w.served-is ∙ ended)
+          w.restart_in-served.ensures.led)))
       | in-Lines+in-Some w ↦
           let left = g.R.Read.remaining (inner_of w.serve_lines.new.reader) in
           let is = store_of w.serve_lines.new.outputs.keeper in
-          rw w.devices-is (launch_leads g.S.Store.put c.args.service asked before left after left d
-          session was is (opens_based base before after left d all lines.now
+          rw w.devices-is (launch_leads g.S.Store.put c.args.service asked ending before left after
+          left d session was is (opens_based base before after left d all lines.now
           (named_some (λ b. b.now) c.args.base _ w.in-Some.is) reads spelled)
           c.in-Ok-begin_gated.ensures.begun (rw w.in-Lines.is tt))
       | in-Lines+in-None w ↦
           let is = store_of w.serve_lines-in-None.new.outputs.keeper in
-          rw w.devices-is (launch_leads g.S.Store.put c.args.service asked before after alone.0
-          alone.0 d session was is alone.1 c.in-Ok-begin_gated.ensures.begun
+          rw w.devices-is (launch_leads g.S.Store.put c.args.service asked ending before after
+          alone.0 alone.0 d session was is alone.1 c.in-Ok-begin_gated.ensures.begun
           (rw w.in-Lines.is tt))
     ]

@@ -1,4 +1,4 @@
-use Rattle.std.proofs.Common.{◌∙◌, ℕ, List, ap, false, subst}
+use Rattle.std.proofs.Common.{◌∙◌, ℕ, IfOk, List, ap, false, subst}
 use Rattle.rc_serve.specs.Ending.{IsDoneAs}
 use Rattle.rc_streams.specs.Noting.{inner_of}
 use Rattle.rc_args.specs.OnceAsked.{OnceSaying, Said}
@@ -23,10 +23,11 @@ returns-clause-served g c =
     c.serve_steps-ended.ensures.served
 
 pub returns-clause-led : goal.returns-clause-led
-returns-clause-led g c done =
-    subst (λ (what : OnceSaying). LeadsBack g.S.Store.put (session_ask_of c.args.request.now).live
+returns-clause-led g c =
+    subst (λ (what : OnceSaying). IfOk c.serve_steps-ended.result (λ ending.
+    LeadsBack g.S.Store.put (session_ask_of c.args.request.now).live ending
     what c.args.session.now.database c.args.session.now.line (store_of c.args.outputs.now.keeper)
-    (store_of c.serve_steps-ended.new.outputs.keeper))
+    (store_of c.serve_steps-ended.new.outputs.keeper)))
     (ap Said c.step_line-line.ensures.says
     ∙ ap (λ (ns : List (List ℕ)). lowering false ns) c.in-Ok-copied.ensures)
-    (c.serve_steps-ended.ensures.led done)
+    c.serve_steps-ended.ensures.led

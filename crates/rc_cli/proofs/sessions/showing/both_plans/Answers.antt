@@ -1,4 +1,4 @@
-use Rattle.std.proofs.Common.{◌≡◌, ◌∙◌, ◌++◌, List, ℕ, ap, map, string_bytes, subst}
+use Rattle.std.proofs.Common.{◌∙◌, ◌++◌, List, ℕ, ap, map, string_bytes, subst}
 use Rattle.rc_model.specs.Database.{Database}
 use Rattle.rc_render.specs.Names.{ok_line}
 use Rattle.rc_render.specs.PlanText.{IsPlanText}

@@ -1,4 +1,4 @@
-use Rattle.std.proofs.Common.{◌≡◌, ◌∙◌, [], List, ℕ, IfErr, IfOk, ap, map, string_bytes, subst}
+use Rattle.std.proofs.Common.{◌∙◌, [], List, ℕ, IfErr, IfOk, ap, subst}
 use Rattle.rc_model.specs.Plan.{Ask, IsPlanOf}
 use Rattle.rc_model.specs.Session.{Change, IsOwnFault}
 use Rattle.rc_model.specs.declared.Mode.TheVariants.{DownAll}
