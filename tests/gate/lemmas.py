@@ -16,7 +16,6 @@ LONGER = {
     "rc_board::undo": "the specification fixes its arguments",
     "rc_board::redo": "the specification fixes its arguments",
     "rc_serve::serve": "the specification fixes its arguments",
-    "rc_serve::serve_kept": "the arguments of serve, and the keeper",
 }
 IMPORT = re.compile(r"(?m)^(?:pub )?use (Rattle\.rc_[\w.]+)(?:\.\{([^}]*)\}| as (\w+))$")
 HEAD = re.compile(r"( *)(?:pub )?([^\s(){}:,]+) :(?: |$)")

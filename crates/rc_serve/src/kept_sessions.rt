@@ -42,21 +42,20 @@ const MAX_WORKERS: u8 = 64;
 /// Time grows with the bytes of the lines and with what the commands do. A line costs no more the
 /// longer the journal is, except for `journal`, which shows it.
 pub fn serve_kept<T: Threads + Wait + Sync, R: Read, W: Write, K: Keeper, G: Gate>(
-    rt: &T,
-    alloc: Global,
+    executor: &Executor<'_, T, G>,
     reader: &mut Noted<R>,
     writer: &mut Noted<W>,
     session: &mut Session,
     keeper: &mut K,
-    gate: &G,
-    workers: u8,
 ) -> Result<(), ServeFault>
     requires closed { session.old.begun ≡ false }
     requires reader { HasFailed reader.old → ⊥ }
     requires writer { HasFailed writer.old → ⊥ }
 
     // The whole input was read, and what was written is the answers to all its lines.
-    ensures done { OnOk result (ServesAll (IsDoneBy workers (G.answers gate.now) (G.gives gate.now))
+    ensures done { OnOk result (ServesAll
+        (IsDoneBy executor.now.workers (G.answers executor.now.gate.now)
+        (G.gives executor.now.gate.now))
         (exchanged R.remaining W.contents reader.old reader.new writer.old writer.new)
         session.old session.new) }
 
@@ -65,7 +64,9 @@ pub fn serve_kept<T: Threads + Wait + Sync, R: Read, W: Write, K: Keeper, G: Gat
         session.old.database session.old.line session.new.line) }
 
     // A session none of whose lines alters the line of states keeps nothing.
-    ensures unaltered { AltersNone (IsDoneBy workers (G.answers gate.now) (G.gives gate.now))
+    ensures unaltered { AltersNone
+        (IsDoneBy executor.now.workers (G.answers executor.now.gate.now)
+        (G.gives executor.now.gate.now))
         (R.remaining (inner_of reader.old)) session.old.database session.old.line
         → keeper.new ≡ keeper.old }
 
@@ -77,7 +78,8 @@ pub fn serve_kept<T: Threads + Wait + Sync, R: Read, W: Write, K: Keeper, G: Gat
     // service. The line of states that stands is kept, or none was altered; or keeping it has
     // failed: then nothing was written of its answer, and the one before it is kept.
     ensures begun { IfErr result (λ fault. ServesFrontKept
-        (IsDoneBy workers (G.answers gate.now) (G.gives gate.now)) fault
+        (IsDoneBy executor.now.workers (G.answers executor.now.gate.now)
+        (G.gives executor.now.gate.now)) fault
         K.fails (K.keeps keeper.old) (K.keeps keeper.new)
         (exchanged R.remaining W.contents reader.old reader.new writer.old writer.new)
         session.old session.new) }
@@ -86,14 +88,14 @@ pub fn serve_kept<T: Threads + Wait + Sync, R: Read, W: Write, K: Keeper, G: Gat
     // written is the text of the session for these, or a prefix of it: its bytes depend neither on
     // the number of workers nor on who was quicker.
     ensures text { (fails : ℕ → Way → Bool) →
-        FailsExactly (G.answers gate.now) fails →
-        IsTimeless (G.gives gate.now) (R.remaining (inner_of reader.old)) →
+        FailsExactly (G.answers executor.now.gate.now) fails →
+        IsTimeless (G.gives executor.now.gate.now) (R.remaining (inner_of reader.old)) →
         OnOk result (ServesFailing fails
         (exchanged R.remaining W.contents reader.old reader.new writer.old writer.new)
         session.old session.new) }
     ensures front { (fails : ℕ → Way → Bool) →
-        FailsExactly (G.answers gate.now) fails →
-        IsTimeless (G.gives gate.now) (R.remaining (inner_of reader.old)) →
+        FailsExactly (G.answers executor.now.gate.now) fails →
+        IsTimeless (G.gives executor.now.gate.now) (R.remaining (inner_of reader.old)) →
         IfErr result (λ fault. ServesFrontFailingKept fault
         K.fails (K.keeps keeper.old) (K.keeps keeper.new) fails
         (exchanged R.remaining W.contents reader.old reader.new writer.old writer.new)
@@ -112,8 +114,8 @@ pub fn serve_kept<T: Threads + Wait + Sync, R: Read, W: Write, K: Keeper, G: Gat
 
     // With a wrong number of workers nothing is read and nothing written, and
     // with a right one that is no fault.
-    ensures crew { OnOk result (IsCrew workers) }
-    ensures workers { (result ≡ Err ServeFault.Workers) ↔ (IsCrew workers → ⊥) }
+    ensures crew { OnOk result (IsCrew executor.now.workers) }
+    ensures workers { (result ≡ Err ServeFault.Workers) ↔ (IsCrew executor.now.workers → ⊥) }
     ensures unread { result ≡ Err ServeFault.Workers → reader.new ≡ reader.old }
     ensures unwritten { result ≡ Err ServeFault.Workers → writer.new ≡ writer.old }
     ensures same { result ≡ Err ServeFault.Workers → session.new ≡ session.old }
@@ -144,23 +146,17 @@ pub fn serve_kept<T: Threads + Wait + Sync, R: Read, W: Write, K: Keeper, G: Gat
     // The session tells that its line is one of its database.
     let _ = session.db();
     let _ = session.journal();
-    if !is_crew(workers) {
+    if !is_crew(executor.workers) {
         return Err(ServeFault::Workers);
     }
-    let executor = Executor {
-        rt,
-        alloc,
-        gate,
-        workers,
-    };
-    let mut lines = Lines::new(alloc);
+    let mut lines = Lines::new(executor.alloc);
     loop {
-        let (said, ends) = match next_said(alloc, &mut lines, reader) {
+        let (said, ends) = match next_said(executor.alloc, &mut lines, reader) {
             Ok(Some(next)) => next,
             Ok(None) => return Ok(()),
             Err(fault) => return Err(fault),
         };
-        let ended = answer_once(&executor, session, keeper, &said, writer);
+        let ended = answer_once(executor, session, keeper, &said, writer);
         drop(said);
         match ended {
             Ok(_) => {

@@ -16,7 +16,7 @@ ghost use Rattle.rc_serve.specs.SessionText.{ServesFailing};
 use crate::fault::ServeFault;
 use crate::keeper::Unkept;
 use crate::kept_sessions::serve_kept;
-use rc_board::Gate;
+use rc_board::{Executor, Gate};
 use rc_session::Session;
 use rc_streams::Noted;
 use std::alloc::Global;
@@ -117,14 +117,11 @@ pub fn serve<T: Threads + Wait + Sync, R: Read, W: Write, G: Gate>(
     ensures taken { ConsumesAtMost (R.remaining (inner_of reader.old))
         (R.remaining (inner_of reader.new)) 16777217 }
 {
-    serve_kept(
+    let executor = Executor {
         rt,
         alloc,
-        reader,
-        writer,
-        session,
-        &mut Unkept,
         gate,
         workers,
-    )
+    };
+    serve_kept(&executor, reader, writer, session, &mut Unkept)
 }

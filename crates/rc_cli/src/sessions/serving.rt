@@ -16,7 +16,7 @@ use crate::sessions::host::Host;
 use crate::sessions::keeping::Store;
 use crate::sessions::service::Outputs;
 use rc_args::SessionRequest;
-use rc_board::Gate;
+use rc_board::{Executor, Gate};
 use rc_serve::{Ending, Keeper, ServeFault, serve, serve_kept};
 use rc_session::Session;
 use rc_streams::{MAX_INPUT, Noted};
@@ -52,6 +52,12 @@ pub(crate) fn serve_lines<T: Threads + Wait + Sync, R: Read, W: Write, G: Gate, 
     ensures taken { ConsumesAtMost (R.remaining (inner_of reader.old))
         (R.remaining (inner_of reader.new)) (MAX_INPUT + 1) }
 {
+    let executor = Executor {
+        rt: host.threads,
+        alloc: host.alloc,
+        gate,
+        workers: request.workers,
+    };
     match request.live {
         None => as_done(serve(
             host.threads,
@@ -64,14 +70,11 @@ pub(crate) fn serve_lines<T: Threads + Wait + Sync, R: Read, W: Write, G: Gate, 
         )),
         Some(_) => match outputs.keeper.keep(host.alloc, session) {
             Ok(()) => as_done(serve_kept(
-                host.threads,
-                host.alloc,
+                &executor,
                 reader,
                 &mut outputs.writer,
                 session,
                 &mut outputs.keeper,
-                gate,
-                request.workers,
             )),
             Err(fault) => Err(ServeFault::from(fault)),
         },

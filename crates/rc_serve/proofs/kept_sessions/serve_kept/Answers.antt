@@ -14,9 +14,9 @@ use Rattle.rc_serve.proofs.kept_sessions.serve_kept.Goals as goal
 pub returns-then-not-is_crew : goal.returns-then-not-is_crew
 returns-then-not-is_crew g c =
     session_refused (record {
-      workers = c.args.workers;
-      answers = g.G.Gate.answers c.args.gate.now;
-      gives = g.G.Gate.gives c.args.gate.now;
+      workers = c.args.executor.now.workers;
+      answers = g.G.Gate.answers c.args.executor.now.gate.now;
+      gives = g.G.Gate.gives c.args.executor.now.gate.now;
       remaining = g.R.Read.remaining;
       contents = g.W.Write.contents;
       keeps = g.K.Keeper.keeps;
