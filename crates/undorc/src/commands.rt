@@ -4,9 +4,9 @@ ghost use Rattle.rc_streams.specs.Noting.{HasFailed};
 use crate::history;
 use crate::notes::{tell_left, tell_note, tell_opening, tell_session};
 use crate::printed::Printed;
+use crate::reasons::tell_why;
 use crate::restarts::tell_down;
 use crate::tails::show_tails;
-use crate::updates::tell_why;
 use crate::workers::tell_workers;
 use log::warn;
 use rc_args::{Once, SessionCommand, Verbosity};
@@ -78,7 +78,7 @@ fn carry_out_on<'x, T: Threads + Wait + Sync>(
     let (input, answers) = (typed.kept(), &printed.answers);
     tell_hints(rt, opened, input, answers, store.error(), &told);
     tell_workers(rt, threads, &told);
-    tell_why(rt, opened, status);
+    tell_why(rt, opened, input, status);
     tell_down(rt, opened, files, status);
     tell_left(rt, opened);
     status

@@ -11,6 +11,7 @@ mod notes;
 mod own_name;
 mod printed;
 mod programs;
+mod reasons;
 mod restarts;
 mod tails;
 mod updates;

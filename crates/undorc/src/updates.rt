@@ -1,10 +1,8 @@
-//! `update`: carries what is live over to another database. If that is only shown, messages say why
-//! services move.
+//! `update`: carries what is live over to another database.
 
 use crate::commands::carry_out;
-use rc_args::{SessionCommand, UpdateRequest, Verbosity, renames_in};
-use rc_launch::Opened;
-use rc_launch::frontend::{tell_file, tell_moves, tell_renames};
+use rc_args::{SessionCommand, UpdateRequest, renames_in};
+use rc_launch::frontend::{tell_file, tell_renames};
 use rc_streams::whole_file;
 use std::sync::Wait;
 use std::thread::Threads;
@@ -54,19 +52,5 @@ fn renames_at(rt: &HostRuntime, path: Option<&str>) -> Result<Vec<u8>, u8> {
     match whole_file::read(rt, path) {
         Ok(text) => Ok(text),
         Err(error) => Err(tell_file(rt, path, &error)),
-    }
-}
-
-/// Prints why an update that was shown moves services.
-pub fn tell_why(rt: &HostRuntime, opened: &Opened<'_>, status: u8) {
-    if let (SessionCommand::Update(request), Some(old), Some(new), Some(live)) = (
-        opened.command(),
-        opened.base(),
-        opened.new_base(),
-        opened.live().bytes(),
-    ) {
-        if status == 0 && request.dry && request.session.verbosity != Verbosity::Quiet {
-            tell_moves(rt, old.bytes(), new.bytes(), &request.conversions, live);
-        }
     }
 }
