@@ -54,6 +54,8 @@ def plant(path, tree):
 REPORT = b"undorc:    0.000 s  "
 # What an update that is only shown says of each service that moves.
 MOVES = b" moves: "
+# How what an undo or a redo that is only shown says of each entry begins.
+ENTRIES = (b"undorc: takes back ", b"undorc: makes again ")
 
 
 class Bench:
@@ -86,8 +88,8 @@ class Bench:
         write(b"in", case.input)
 
     def run(self, case):
-        """The status, what is written, what is reported of transitions, the first line of what else is told, the file
-        of -l, what is left."""
+        """The status, what is written, what is reported of transitions and of why services move, the first line of what
+        else is told, the file of -l, what is left."""
         self.prepare(case)
         actions = [(os.POSIX_SPAWN_OPEN, 0, "in", os.O_RDONLY, 0)]
         for stream, name in ((1, "out"), (2, "err")):
@@ -103,8 +105,11 @@ class Bench:
         status = os.waitstatus_to_exitcode(os.waitpid(child, 0)[1])
         *lines, rest = read("err").split(b"\n")
         told = [line + b"\n" for line in lines] + [rest]
-        is_report = lambda line: line.startswith(REPORT) or MOVES in line
-        reports = [line for line in told if is_report(line)]
+        is_report = lambda line: line.startswith((REPORT,) + ENTRIES) or MOVES in line
+        # The entries stand in their order, as one report.
+        entries = b"".join(line for line in told if line.startswith(ENTRIES))
+        reports = [line for line in told if is_report(line) and not line.startswith(ENTRIES)]
+        reports += [entries] if entries else []
         fault = next((line for line in told if not line.startswith(b"  ") and not is_report(line)), b"")
         return status, read("out"), sorted(reports), fault, read("kept"), sorted(os.listdir(b"."))
 

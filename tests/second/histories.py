@@ -73,6 +73,8 @@ class History:
         self.is_plain = is_plain
         # Where the lines of the frame are in the text.
         self.places = []
+        # The states of the last undo or redo, from where it began: the generation of each, and its place there.
+        self.reached = []
 
     def now(self):
         return self.generations[self.at]
@@ -142,6 +144,7 @@ class History:
         if not self.can_step(way):
             raise Refusal("NothingToUndo" if way < 0 else "NothingToRedo")
         answers = []
+        self.reached = [(self.at, self.now().line.cursor)]
         while True:
             if 0 <= self.now().line.cursor + way < len(self.now().line.states):
                 answers.append(do_one(self, command))
@@ -149,19 +152,32 @@ class History:
                     break
             else:
                 self.at += way
+            self.reached.append((self.at, self.now().line.cursor))
             if not self.now().is_passed() or not self.can_step(way):
                 break
         return b"".join(answers) or b"ok\n"
 
     def shown(self, command):
-        """What that would move: the plan of each run, as if those before it had succeeded."""
+        """What that would move: the plan of each run, as if those before it had succeeded. And the entries of the journal
+        that it goes along, or none where a text can't be read."""
 
         def do_one(trial, command):
             said = plans.told(task_of(trial.now().base, trial.now().line, command)[0]) + b"ok\n"
             trial.do(command, fail_by_list([]))
             return said
 
-        return copy.deepcopy(self).travel(command, do_one)
+        trial = copy.deepcopy(self)
+        said = trial.travel(command, do_one)
+        try:
+            entries = self.journal().split(b"\n")[1:]
+        except Refusal:
+            return said, []
+        numbers = [self.number(*place) for place in trial.reached]
+        return said, [entries[min(pair)].removesuffix(b" ..") for pair in zip(numbers, numbers[1:])]
+
+    def number(self, place, cursor):
+        """The number of a state of a generation among those of all."""
+        return sum(len(one.line.states) for one in self.generations[:place]) + cursor
 
     def journal(self):
         """The states of all generations, and the borders between them."""

@@ -20,14 +20,16 @@ from forms import Failure, Refusal
 
 LONGEST_LINE = 65536
 LOOKS = (b"live", b"bundles", b"journal")
+# What an undo and a redo that are only shown say of each entry.
+WAYS = {"undo": b"takes back", "redo": b"makes again"}
 # Control characters, and how those are written on standard error that have an escape of their own.
 CONTROL = re.compile(rb"[\x00-\x1f\x7f]|\xc2[\x80-\x9f]")
 ESCAPES = {b"\0": rb"\0", b"\t": rb"\t", b"\n": rb"\n", b"\r": rb"\r"}
 
 
 class Answer:
-    """What a run comes to: `fault` is the line on standard error behind `reports`, those of transitions, and
-    `kept` the file of -l."""
+    """What a run comes to: `fault` is the line on standard error behind `reports`, those of transitions and of why
+    services move, and `kept` the file of -l."""
 
     def __init__(self, status=0, out=b"", fault=b"", kept=None, circle=None):
         self.status = status
@@ -115,8 +117,12 @@ def one_shot(case, answer):
             command.word = b"dry"
         if case.word == "journal" and not history.is_plain:
             answer.out = history.journal() + b"ok\n"
-        elif case.word in ("undo", "redo"):
-            answer.out = history.shown(command) if case.dry else history.travel(command, doing(case, answer))
+        elif case.word in WAYS and case.dry:
+            answer.out, entries = history.shown(command)
+            told = b"".join(b"undorc: %s %s\n" % (WAYS[case.word], shown(entry)) for entry in entries)
+            answer.reports += [told] if told else []
+        elif case.word in WAYS:
+            answer.out = history.travel(command, doing(case, answer))
         else:
             answer.out = doing(case, answer)(history, command)
     except Refusal as refusal:

@@ -152,6 +152,8 @@ database=base leaves_alone 0 'ok\n' '' --to 0 -x none
 cp six live
 goes_back 2 'lowered log\nok\nlowered db\nok\nlowered net\nok\nfailed net\nok\n' '' --to 1 -q -x up:net
 told "at 2 of 7\n$entries"
+leaves_alone 0 'raise net\nok\n' "$(not_base new)\nundorc: takes back 1 -net\n" -n
+expect 0 'raise net\nok\n' 'undorc: makes again 2 update\nundorc: makes again 3 +net\n' '' redo -n -l live
 goes_back 0 'raised net\nok\n' "$(not_base new)\n" --to 1 -x none
 # The text of the present database can't be read: nothing is shown, and nothing moves. Or that of another one: the undos
 # end where they would cross to it.
@@ -166,6 +168,8 @@ echo 0 > status
 judge 'a file whose text is bad, behind an undo' 0
 sed '0,/^service db longrun/s//service db longfun/' six > live
 expect 1 '' 'undorc: NotJoined 1\n' '' journal -l live
+# An undo inside the present database is shown all the same, and its entry is not named.
+expect 0 'lower log\nok\n' '' '' undo -n -l live
 goes_back 2 'lowered log\nok\nlowered db\nok\n' 'undorc: NotJoined 1\n' --to 1 -x none
 sed '0,/^now/s//nox/' six > live
 expect 1 '' 'undorc: NotJoined 1\n' '' journal -l live

@@ -53,6 +53,12 @@ places() {
     judge "the place and the marks after $said" 0
 }
 told=''
+# names WAY ENTRY..: a command that only shows something says on standard error which entries are on its way
+names() {
+    way=$1
+    shift
+    for entry; do told="${told}undorc: $way $entry\n"; done
+}
 # not_of_session FILE: what is told of a file of -b that is not the database of the session
 not_of_session() {
     printf 'undorc: %s is not the database of this session: undorc update -b %s -l live carries it over' "$1" "$1"
@@ -75,10 +81,12 @@ stands_on two ' a b c'
 does 0 'lowered b c\nok\nraised b\nok\n' 'down b two\ndown c two\nup b one\n' undo -b two.db
 places 'at 0 of 2\ngeneration stop passed\ngeneration passed stop\n'
 stands_on one ' a b'
+names 'makes again' '1 -b' '2 update' '3 +b +c'
 does 0 'lower b\nok\nraise b c\nok\n' '' redo -n -b one.db
 does 0 'lowered b\nok\nraised b c\nok\n' 'down b one\nup b two\nup c two\n' redo -b one.db
 places 'at 1 of 2\ngeneration stop passed\ngeneration passed stop\n'
 stands_on two ' a b c'
+names 'takes back' '3 +b +c' '2 update' '1 -b'
 does 0 'lower b c\nok\nraise b\nok\n' '' undo -n -b two.db
 stands_on two ' a b c'
 
@@ -248,6 +256,7 @@ echo 5000 > three/e/timeout-up
 tree_databases three
 does 0 'ok\nok\n' '' update -b same.db -B three.db
 places 'at 3 of 4\ngeneration stop passed\ngeneration passed passed\ngeneration stop stop\ngeneration stop stop\n'
+names 'takes back' '6 update'
 does 0 'ok\n' '' undo -n -b three.db
 does 0 'ok\n' '' undo -b three.db
 places 'at 2 of 4\ngeneration stop passed\ngeneration passed passed\ngeneration stop stop\ngeneration stop stop\n'
@@ -283,6 +292,112 @@ for number in 1 2 3 4 5 6 7; do
 done
 said='seven undos'
 places "at 0 of 8\n$(printf 'generation %s\\n' 'stop stop' 'stop stop' 'stop stop' 'stop stop' 'stop stop' 'stop stop' 'stop stop' 'stop stop')"
+
+# What only shows an undo or a redo names the entries that it takes back or makes again, as the journal has them, in their
+# order: on standard error, and not with -q. An update is two entries and its border, with what goes on by another name.
+mv live kept.live
+tree_service five a
+tree_service five log
+tree_service five web log
+tree_service six a
+tree_service six logger a
+tree_service six web logger
+tree_databases five six
+echo 'log -> logger' > renames
+# has_entries PLACE: the journal has `entries`, and stands there
+has_entries() {
+    expect 0 "$1\n${entries}ok\n" '' '' journal -l live
+}
+does 0 'raised log web\nok\n' 'up log five\nup web five\n' change web -b five.db
+moved='down log five\ndown web five\nup a six\nup logger six\nup web six\n'
+does 0 'lowered log web\nok\nraised a logger web\nok\n' "$moved" update -B six.db -f renames
+entries='0 +log +web\n1 -log -web ..\n2 update log>logger ..\n3 +a +logger +web\n'
+has_entries 'at 4 of 5'
+names 'takes back' '3 +a +logger +web' '2 update log>logger' '1 -log -web'
+does 0 'lower a logger web\nok\nraise log web\nok\n' '' undo -n
+does 0 'lower a logger web\nok\nraise log web\nok\n' '' undo -n -q
+does 1 'refused NothingToRedo\n' '' redo -n
+has_entries 'at 4 of 5'
+moved='down a six\ndown logger six\ndown web six\nup log five\nup web five\n'
+does 0 'lowered a logger web\nok\nraised log web\nok\n' "$moved" undo
+names 'makes again' '1 -log -web' '2 update log>logger' '3 +a +logger +web'
+does 0 'lower log web\nok\nraise a logger web\nok\n' '' redo -n
+does 0 'lower log web\nok\nraise a logger web\nok\n' '' redo -n -q
+names 'takes back' '0 +log +web'
+does 0 'lower log web\nok\n' '' undo -n
+does 0 'lowered log web\nok\n' 'down log five\ndown web five\n' undo
+does 1 'refused NothingToUndo\n' '' undo -n
+names 'makes again' '0 +log +web'
+does 0 'raise log web\nok\n' '' redo -n
+does 0 'raised log web\nok\n' '' redo -x none
+has_entries 'at 1 of 5'
+
+# An update that fails ends on a state that is passed: an undo begins there, and a redo ends there, where none follows.
+does 2 'lowered log web\nok\nraised a logger\nfailed web\nok\n' '' update -B six.db -f renames -q -x up:web
+entries='0 +log +web\n1 -log -web ..\n2 update log>logger ..\n3 +a +logger ..\n'
+has_entries 'at 4 of 5'
+names 'takes back' '3 +a +logger' '2 update log>logger' '1 -log -web'
+does 0 'lower a logger\nok\nraise log web\nok\n' '' undo -n
+does 0 'lowered a logger\nok\nraised log web\nok\n' '' undo -x none
+names 'makes again' '1 -log -web' '2 update log>logger' '3 +a +logger'
+does 0 'lower log web\nok\nraise a logger\nok\n' '' redo -n
+# So does a restart that fails. It leaves no entry where it succeeds.
+does 2 'lowered web\nok\nfailed web\nok\n' '' restart web -q -x up:web
+entries='0 +log +web\n1 -web ..\n'
+has_entries 'at 2 of 3'
+names 'takes back' '1 -web'
+does 0 'raise web\nok\n' '' undo -n
+does 0 'raised web\nok\n' '' undo -x none
+names 'makes again' '1 -web'
+does 0 'lower web\nok\n' '' redo -n
+does 0 'lowered web\nok\nraised web\nok\n' '' restart web -x none
+names 'takes back' '0 +log +web'
+does 0 'lower log web\nok\n' '' undo -n
+# An edit is an entry, of which nothing moves.
+does 0 'ok\n' '' add both a log
+names 'takes back' '1 both:none>[a,log]'
+does 0 'ok\n' '' undo -n
+does 0 'ok\n' '' undo -x none
+names 'makes again' '1 both:none>[a,log]'
+does 0 'ok\n' '' redo -n
+
+# A restart that is killed while a service comes up is named as its file has it, and no next command has entered.
+rm -f live live.* begun
+tree_service cut a
+tree_service cut web a
+echo 'echo up web cut >> log; [ ! -e slow ] || { : > begun; until [ -e go ]; do sleep 0.02; done; }' > cut/web/up
+tree_databases cut
+does 0 'raised a web\nok\n' 'up a cut\nup web cut\n' change web -b cut.db
+: > slow
+"$program" restart web -l live < /dev/null > /dev/null 2>&1 &
+killed=$!
+for turn in $(seq 250); do
+    [ ! -e begun ] || break
+    sleep 0.02
+done
+kill -KILL "$killed"
+wait "$killed" 2> /dev/null || true
+told='undorc: a command was cut short: the next one enters what it has moved\n'
+names 'takes back' '1 -web'
+does 0 'raise web\nok\n' 'down web cut\nup web cut\n' undo -n
+rm slow
+: > go
+sleep 0.2
+told='undorc: Recovered\n'
+does 0 'raised web\nok\n' '' undo -x none
+names 'takes back' '0 +a +web'
+does 0 'lower a web\nok\n' '' undo -n
+
+# A session without a history: its database is that of -b, or of the input.
+printf '%s\n' 'change b' 'change c' undo | "$program" session -b one.db -x none -l plain > out 2>&1
+expect 0 'lower a b\nok\n' 'undorc: takes back 0 +a +b\n' '' undo -n -b one.db -l plain
+expect 0 'raise c\nok\n' 'undorc: makes again 1 +c\n' '' redo -n -b one.db -l plain
+expect 0 'lower a b\nok\n' 'undorc: takes back 0 +a +b\n' "$(cat one.db)\n" undo -n -l plain
+expect 0 'raise c\nok\n' 'undorc: makes again 1 +c\n' "$(cat one.db)\n" redo -n -l plain
+expect 0 'lower a b\nok\n' '' '' undo -n -q -b one.db -l plain
+first_line_is plain 'undorc-live 2'
+rm -f plain live live.*
+mv kept.live live
 
 
 # What is refused of the file: another version, another form, and a border that is none. It is left alone.

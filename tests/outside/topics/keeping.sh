@@ -49,18 +49,19 @@ one_shot_over() {
     command=$1 shown=$2
     printf '%s\n' "$shown" > in
     expects none
+    : > whole.err
     if [ -z "$shown" ]; then
         # shellcheck disable=SC2086
-        "$program" $command -l text.none.0 > whole.none
+        "$program" $command -l text.none.0 > whole.none 2> whole.err
         cp text.none.0 text.none.1
     elif [ "$(head -n 1 text.none.0)" = 'undorc-live 2' ]; then
         history_of stop text.none.0 > text.none.0.then
         history_of stop text.none.1 > made
         mv made text.none.1
     fi
-    failing "$3" "$io" FILES once faults=Io
-    failing "$3" "$io" FILES good faults=Io
-    failing 3 '111 undorc: Write\n' WRITES 'piece 5 good' faults=Write
+    failing "$3" "$io" FILES once 'faults=Io notes'
+    failing "$3" "$io" FILES good 'faults=Io notes'
+    failing 3 '111 undorc: Write\n' WRITES 'piece 5 good' 'faults=Write notes'
     rm -f text.none.0.then
 }
 printf '%s\n' 'change a c' 'change b' undo > in

@@ -107,7 +107,7 @@ rm -f other other.lock
 expect 0 'live s1\nok\n' '' '' live -b base -l way/other
 expect 0 'at 1 of 2\n0 +s1\nok\n' '' '' journal -b base -l live
 expect 0 'raise s3\nok\n' '' '' change -n s3 -b base -l live
-expect 0 'lower s1\nok\n' '' '' undo -n -b base -l live
+expect 0 'lower s1\nok\n' 'undorc: takes back 0 +s1\n' '' undo -n -b base -l live
 expect 1 'refused NothingToRedo\n' '' '' redo -n -b base -l live
 printf 'change s3\nlive\n' > waiting
 "$program" session -b base -x none -l way/other -W < waiting > waited 2>&1 3>&- 4<&- &

@@ -178,23 +178,24 @@ expects none
 each 200 "$ample$memory" 'answers kept fresh' session -b base -n 3
 
 # One-shot commands on a file: as a session of the one line, or, of those that only show something and
-# have no line, as what they write where nothing is refused, with the file left alone. The text of a session becomes a
-# history before anything moves.
+# have no line, as what they write where nothing is refused, with the file left alone. Of the entries that an undo or a redo
+# names there some may be missing. The text of a session becomes a history before anything moves.
 one_shot() {
     shown=$1
     shift
     printf '%s\n' "$shown" > in
     expects none
     : > in
+    : > whole.err
     if [ -z "$shown" ]; then
-        "$program" "$@" -b base -l text.none.0 > whole.none
+        "$program" "$@" -b base -l text.none.0 > whole.none 2> whole.err
         cp text.none.0 text.none.1
     elif [ "$(head -n 1 text.none.0)" = 'undorc-live 2' ]; then
         history_of stop text.none.0 > text.none.0.then
         history_of stop text.none.1 > made
         mv made text.none.1
     fi
-    each $((from > 0 ? 20 : 100)) "$ample$memory" 'answers kept' "$@" -b base
+    each $((from > 0 ? 20 : 100)) "$ample$memory" 'answers kept notes' "$@" -b base
     rm -f text.none.0.then
 }
 rm text.* whole.*

@@ -20,14 +20,15 @@ alike() {
     judge "undorc $* -x $list, as a session of one line" "$status"
 }
 
-# shows STATUS OUTPUT WORDS..: a command that only shows something ends so, and the file is left alone: the bytes, and
-# the file itself, which is not replaced by one like it
+# shows STATUS OUTPUT WORDS..: a command that only shows something ends so and says `names`, and the file is left alone:
+# the bytes, and the file itself, which is not replaced by one like it
+names=
 shows() {
     status=$1 output=$2
     shift 2
     cp live live.before
     number=$(stat -c %i live)
-    expect "$status" "$output" '' '' "$@" -b base -l live
+    expect "$status" "$output" "$names" '' "$@" -b base -l live
     passed=$((passed + 1))
     if ! cmp -s live live.before || [ "$(stat -c %i live)" != "$number" ] || [ -e live.new ]; then
         passed=$((passed - 1))
@@ -45,13 +46,14 @@ shows 0 'at 1 of 2\n0 +net +root\nok\n' journal
 shows 0 'raise db log web\nok\n' change -n site
 shows 1 'refused Unknown nobody\n' change -n site nobody
 shows 1 'refused PruneNeedsUp\n' change -n -p -d net
-shows 0 'lower net root\nok\n' undo -n
+names='undorc: takes back 0 +net +root\n' shows 0 'lower net root\nok\n' undo -n
+shows 0 'lower net root\nok\n' undo -n -q
 shows 1 'refused NothingToRedo\n' redo -n
 alike 0 none 'change site' change site
 alike 0 none 'change site' change site
-shows 0 'lower db log web\nok\n' undo -n
+names='undorc: takes back 1 +db +log +web\n' shows 0 'lower db log web\nok\n' undo -n
 alike 0 none undo undo
-shows 0 'raise db log web\nok\n' redo -n
+names='undorc: makes again 1 +db +log +web\n' shows 0 'raise db log web\nok\n' redo -n
 alike 0 none redo redo
 alike 0 none '-d change log' change -d log
 
