@@ -13,11 +13,12 @@ ghost use Rattle.rc_launch.specs.Readable.{IsUnreadFault};
 ghost use Rattle.rc_launch.specs.Back.{ArrivesBy, ComesBackTo, CountsBack, StopsBack, StopsBefore};
 ghost use Rattle.rc_launch.specs.Back.{UndoesTo, is_stop, steps_by};
 
+use crate::controllers::uncontrolled_back;
 use crate::execution::Execution;
 use crate::live_store::LiveStore;
 use crate::loading::bytes_of;
 use crate::numbers::{GenerationFault, Numbered, numbered_of};
-use crate::outcomes::{fail_on, hindered, say_done, tell_unkept, tell_unread, tell_untold};
+use crate::outcomes::{fail_on, hindered, say_done, tell_refused, tell_unkept, tell_untold};
 use crate::serving::read_of;
 use crate::travel::{Way, history_in, travel};
 use rc_args::SessionRequest;
@@ -62,7 +63,7 @@ pub(crate) fn go_back<'x, T: Threads + Wait + Sync, R: Read, W: Write, F: Write>
         IsPresentRead (session_in execution.now.opened.now.loaded) bytes }
 {
     match unread(execution, devices.outputs.keeper.store.history()) {
-        Some(fault) => tell_unread(execution.rt.alloc(), fault, devices),
+        Some(fault) => tell_refused(execution.rt.alloc(), fault, devices),
         None => match devices.outputs.keeper.store.history() {
             Some(_) => go_back_on(execution, aim, devices),
             None if aim.state == 0 => say_done(b"ok\n", devices),
@@ -140,9 +141,35 @@ fn go_back_on<'x, T: Threads + Wait + Sync, R: Read, W: Write, F: Write>(
     let alloc = execution.rt.alloc();
     match steps_back(alloc, history_in(devices), aim.state) {
         Ok(Some(steps)) if steps == 0 => say_done(b"ok\n", devices),
-        Ok(Some(steps)) => arrive(execution, aim, steps, devices),
+        Ok(Some(steps)) => go_controlled(execution, aim, steps, devices),
         Ok(None) => tell_unkept(alloc, aim.state, devices),
         Err(fault) => tell_untold(alloc, fault, devices),
+    }
+}
+
+// Goes back by so many undos, if they move no longrun that no program controls, and returns the
+// status.
+fn go_controlled<'x, T: Threads + Wait + Sync, R: Read, W: Write, F: Write>(
+    execution: &Execution<'x, '_, T>,
+    aim: Aim,
+    steps: usize,
+    devices: &mut Devices<R, W, F, LiveStore<'x>>,
+) -> u8
+    ensures done { result ≡ 0 → NamesFile execution.now.opened.now.loaded →
+        Leads (store_of devices.old.outputs.keeper) (store_of devices.new.outputs.keeper)
+        (ArrivesBy aim.state steps) }
+    ensures refused { result ≡ 1 → NamesFile execution.now.opened.now.loaded →
+        Leads (store_of devices.old.outputs.keeper) (store_of devices.new.outputs.keeper)
+        (IsRefusedOn false) }
+    ensures stopped { result ≡ 2 → NamesFile execution.now.opened.now.loaded →
+        Leads (store_of devices.old.outputs.keeper) (store_of devices.new.outputs.keeper)
+        (StopsBefore steps) }
+{
+    let (alloc, request) = (execution.rt.alloc(), execution.opened.session());
+    match uncontrolled_back(alloc, request, history_in(devices), aim.state as usize) {
+        Ok(None) => arrive(execution, aim, steps, devices),
+        Ok(Some(name)) => tell_refused(alloc, SessionFault::NoController(name), devices),
+        Err(_) => fail_on(b"Memory", devices),
     }
 }
 

@@ -24,7 +24,7 @@ use crate::execution::Execution;
 use crate::going_back::unread;
 use crate::live_store::LiveStore;
 use crate::numbers::{GenerationFault, numbered_of};
-use crate::outcomes::{say_done, tell_unread, tell_untold};
+use crate::outcomes::{say_done, tell_refused, tell_untold};
 use crate::travel::history_in;
 use rc_cli::sessions::Devices;
 use rc_db::Db;
@@ -52,7 +52,7 @@ pub(crate) fn tell_journal<'x, T, R, W: Write, F: Write>(
 {
     let alloc = execution.rt.alloc();
     match unread(execution, devices.outputs.keeper.store.history()) {
-        Some(fault) => return tell_unread(alloc, fault, devices),
+        Some(fault) => return tell_refused(alloc, fault, devices),
         None => {}
     }
     match answer_of(alloc, history_in(devices)) {
@@ -148,9 +148,12 @@ fn add_generation(
     }
 }
 
-// Reads the database of a generation and the line of its session. Returns none if its texts are
-// not those of such.
-fn told_of(alloc: Global, generation: &GenerationForm<'_>) -> Result<Option<(Db, Line)>, NoMem>
+/// Reads the database of a generation and the line of its session. Returns none if its texts are
+/// not those of such.
+pub(crate) fn told_of(
+    alloc: Global,
+    generation: &GenerationForm<'_>,
+) -> Result<Option<(Db, Line)>, NoMem>
     ensures some { IfOk result (λ read. IfSome read (λ told.
         Spells (Some generation.now.database) [] told.0 [] × IsLineOf told.0 told.1.line
         × SpellsLine told.0 generation.now.session told.1.line)) }

@@ -7,6 +7,7 @@
 mod asking;
 mod borders;
 mod carrying_out;
+mod controllers;
 pub mod crash_laws;
 mod execution;
 mod fault;

@@ -102,8 +102,8 @@ pub(crate) fn tell_unkept<R, W, F: Write, S>(
     }
 }
 
-/// Reports why the text of a session or of its database is refused, and returns the status.
-pub(crate) fn tell_unread<R, W, F: Write, S>(
+/// Reports why a session is not begun, and returns the status. Nothing has moved.
+pub(crate) fn tell_refused<R, W, F: Write, S>(
     alloc: Global,
     fault: SessionFault<'_>,
     devices: &mut Devices<R, W, F, S>,

@@ -12,12 +12,13 @@ ghost use Rattle.rc_launch.specs.HeldHistory.{KeepsIn, Leads, LeadsOn, history_h
 ghost use Rattle.rc_launch.specs.Loading.{NamesFile};
 
 use crate::borders::{first_unjoined, goes_on_behind, is_border};
+use crate::controllers::uncontrolled_ahead;
 use crate::execution::Execution;
 use crate::live_store::LiveStore;
-use crate::outcomes::{fail_on, hindered, say_done, tell_unjoined, word_of};
+use crate::outcomes::{fail_on, hindered, say_done, tell_refused, tell_unjoined, word_of};
 use crate::serving::serve_on;
 use rc_args::Once;
-use rc_cli::sessions::{Devices, LiveFile, Service};
+use rc_cli::sessions::{Devices, LiveFile, Service, SessionFault};
 use rc_historytext::present_of;
 use rc_script::SessionLine;
 use rc_session::Command;
@@ -52,7 +53,8 @@ impl Way {
     }
 }
 
-/// Carries out an undo or a redo, and returns the status. All borders on its way are tested first.
+/// Carries out an undo or a redo, and returns the status. All borders on its way are tested first,
+/// and whether it would move a longrun that no program controls.
 pub(crate) fn travel<'x, T: Threads + Wait + Sync, R: Read, W: Write, F: Write>(
     execution: &Execution<'x, '_, T>,
     way: Way,
@@ -72,8 +74,32 @@ pub(crate) fn travel<'x, T: Threads + Wait + Sync, R: Read, W: Write, F: Write>(
 {
     let alloc = execution.rt.alloc();
     match first_unjoined(alloc, history_in(devices), way.is_on) {
-        Ok(None) => steps(execution, way, devices),
+        Ok(None) => travel_joined(execution, way, devices),
         Ok(Some(border)) => tell_unjoined(alloc, border, devices),
+        Err(_) => fail_on(b"Memory", devices),
+    }
+}
+
+// Carries out an undo or a redo on whose way all borders are joined, and returns the status.
+fn travel_joined<'x, T: Threads + Wait + Sync, R: Read, W: Write, F: Write>(
+    execution: &Execution<'x, '_, T>,
+    way: Way,
+    devices: &mut Devices<R, W, F, LiveStore<'x>>,
+) -> u8
+    ensures done { result ≡ 0 → NamesFile execution.now.opened.now.loaded →
+        Leads (store_of devices.old.outputs.keeper) (store_of devices.new.outputs.keeper)
+        (Travels way.is_on) }
+    ensures halted { HasHalted result → NamesFile execution.now.opened.now.loaded →
+        Leads (store_of devices.old.outputs.keeper) (store_of devices.new.outputs.keeper)
+        (Halts way.is_on) }
+    ensures refused { result ≡ 1 → NamesFile execution.now.opened.now.loaded →
+        Leads (store_of devices.old.outputs.keeper) (store_of devices.new.outputs.keeper)
+        (IsRefusedOn way.is_on) }
+{
+    let (alloc, request) = (execution.rt.alloc(), execution.opened.session());
+    match uncontrolled_ahead(alloc, request, history_in(devices), way.is_on) {
+        Ok(None) => steps(execution, way, devices),
+        Ok(Some(name)) => tell_refused(alloc, SessionFault::NoController(name), devices),
         Err(_) => fail_on(b"Memory", devices),
     }
 }

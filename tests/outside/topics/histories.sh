@@ -433,6 +433,45 @@ mv other live
 history_refused 'undorc: NotJoined 1\n' undo -l live
 history_refused 'undorc: NotJoined 1\n' undo -n -l live
 
+# If no controller is named, nothing moves where any change of an undo or a redo would move a longrun: here the second one of
+# each. With a controller, and where no program is started, all of it is done.
+# unaltered FILE: the file of the session has the text of this one
+unaltered() {
+    cmp live "$1" > out 2>&1 || true
+    : > out.wanted
+    : > err
+    : > err.wanted
+    echo 0 > status
+    judge "what is left of FILE by $said" 0
+}
+mkdir -p seven/daemon
+echo longrun > seven/daemon/type
+echo : > seven/daemon/run
+chmod +x seven/daemon/run
+tree_service seven o
+tree_service eight n
+tree_service eight o n
+tree_databases seven eight
+rm -f live
+: > log
+"$program" change daemon o -b seven.db -l live -c true > out 2>&1
+"$program" update -b seven.db -B eight.db -l live -c true > out 2>&1
+: > log
+cp live updated
+told='undorc: NoController daemon\n'
+does 1 '' '' undo
+unaltered updated
+told='undorc: NoController daemon\n'
+does 1 '' '' undo --to 0
+unaltered updated
+does 0 'lowered n o\nok\nraised daemon o\nok\n' 'down n eight\ndown o eight\nup o seven\n' undo -c true
+cp live undone
+told='undorc: NoController daemon\n'
+does 1 '' '' redo
+unaltered undone
+does 0 'lowered daemon o\nok\nraised n o\nok\n' '' redo -x none
+does 0 'lowered n o\nok\nraised daemon o\nok\n' '' undo --to 1 -x none
+
 # Nobody may read a history who may not read its database.
 rm -f live
 chmod 600 two.db

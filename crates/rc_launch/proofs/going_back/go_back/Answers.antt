@@ -6,4 +6,4 @@ use Rattle.rc_launch.proofs.going_back.go_back.Goals as goal
 pub returns-in-Some-clause-refused : goal.returns-in-Some-clause-refused
 returns-in-Some-clause-refused g c one named =
     refused_here (store_of c.args.devices.now.outputs.keeper)
-    (store_of c.tell_unread.new.devices.outputs.keeper) false c.tell_unread.ensures.same
+    (store_of c.tell_refused.new.devices.outputs.keeper) false c.tell_refused.ensures.same

@@ -14,11 +14,11 @@ returns-in-Some-clause-answers g c = λ bytes held.
     let why : IsUnreadFault request bytes c.in-Some.fault =
     subst (λ (t : List ℕ). IsUnreadFault request t c.in-Some.fault) same
     (c.in-Some.ensures.refused b is) in
-    elim c.tell_unread.ensures.refused [
+    elim c.tell_refused.ensures.refused [
       | inl one ↦ inr (inl (
         one,
-        rw c.tell_unread.ensures.outputs refl,
-        inl (c.in-Some.fault, why, c.tell_unread.ensures.told),
+        rw c.tell_refused.ensures.outputs refl,
+        inl (c.in-Some.fault, why, c.tell_refused.ensures.told),
       ))
       | inr failed ↦ inr (inr failed)
     ]
