@@ -18,6 +18,7 @@ mod typing;
 
 pub use crate::frontend::answers::Answers;
 pub use crate::frontend::compiling::compile;
+pub use crate::frontend::databases::Place;
 pub use crate::frontend::entries::tell_entries;
 pub use crate::frontend::fault_lines::Told;
 pub use crate::frontend::hints::{

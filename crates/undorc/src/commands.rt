@@ -12,7 +12,7 @@ use log::warn;
 use rc_args::{Once, SessionCommand, Verbosity};
 use rc_cli::sessions::{Devices, Outputs, Store, TextKeeper};
 use rc_launch::frontend::{
-    Answers, FileOptions, Seen, ToldErrors, Typed, behind_session, tell_failure, told_errors,
+    Answers, FileOptions, Place, Seen, ToldErrors, Typed, behind_session, tell_failure, told_errors,
 };
 use rc_launch::{LiveStore, Opened, open};
 use rc_names::NoMem;
@@ -60,7 +60,7 @@ fn carry_out_on<'x, T: Threads + Wait + Sync>(
     };
     let mut typed = Typed::new(rt, reads(opened));
     let mut printed = Printed {
-        answers: Answers::new(rt, base_in(opened), files),
+        answers: Answers::new(rt, base_in(opened), place_of(opened, files.base), files),
         held: held_for(rt, opened),
     };
     let mut devices = devices_of(rt, &mut typed, &mut printed, store);
@@ -174,6 +174,15 @@ fn reads(opened: &Opened<'_>) -> Option<&'static str> {
     Some("the database")
 }
 
+/// Returns where the database of a command stands: in the file of the session, in that of `-b`, or
+/// on standard input.
+fn place_of<'a>(opened: &Opened<'a>, file: Option<&'a str>) -> Place<'a> {
+    match (opened.live().history(), opened.session().live) {
+        (Some(_), Some(path)) => Place::Session(path, None),
+        _ => Place::of(file),
+    }
+}
+
 /// Returns the bytes of the database of a command, if one is named.
 fn base_in<'a>(opened: &'a Opened<'_>) -> Option<&'a [u8]> {
     match opened.base() {
@@ -208,11 +217,12 @@ fn seen_of<'a>(
     input: Option<&'a [u8]>,
 ) -> Result<Seen<'a>, NoMem> {
     let Some(base) = opened.base() else {
-        return Ok(Seen::new(None, None, input));
+        return Ok(Seen::new(Place::Input, None, input));
     };
-    let seen = Seen::new(Some(base.path()), Some(base.bytes()), input);
+    let place = place_of(opened, Some(base.path()));
+    let seen = Seen::new(place, Some(base.bytes()), input);
     if let Some(new) = opened.new_base() {
-        let other = Seen::new(Some(new.path()), Some(new.bytes()), None);
+        let other = Seen::new(Place::File(new.path()), Some(new.bytes()), None);
         if seen.is_good(rt)? && !other.is_good(rt)? {
             return Ok(other);
         }

@@ -334,6 +334,16 @@ answers 0 'refused Unknown dis\nlive\nok\n' 'nothing is named dis; is disk meant
 answers 0 'refused Unknown dis\nlive\nok\n' 'nothing is named dis; is disk meant?' "$(sed 's/$/\\n/' whole | tr -d '\n')change dis\nlive\n" session -x none
 answers 0 'refused Unknown -u\n' "options stand in front of a line's word: -u change web" 'change -u web\n' session -b db -x none
 answers 1 'refused Unknown nobody\n' 'nothing is named nobody; undorc db -b db list all prints the names' '' change -b db -x none nobody
+# The database of a session that has one, whatever -b names, and where there is no -b.
+"$program" change web -b db -l owned -x none > setup 2>&1
+cp db other
+for base in '-b other' ''; do
+    # The words stand apart.
+    # shellcheck disable=SC2086
+    answers 1 'refused Unknown nobody\n' 'nothing is named nobody; undorc db -l owned list all prints the names' '' change nobody -l owned -x none $base
+done
+helps 1 'undorc: Unknown nobody\n' 'nothing is named nobody; undorc db -l owned list all prints the names' -- update -B db -l owned -R nobody -x none
+rm owned other
 answers 1 'refused Unknown nobody\n' 'nothing is named nobody in the database on standard input' "$(sed 's/$/\\n/' whole | tr -d '\n')" change -x none nobody
 answers 1 'refused NothingToUndo\n' 'no change is left to undo' '' undo -b db -x none
 answers 1 'refused NothingToUndo\n' 'no change is left to undo; undorc journal -b db -l bundled prints those that are kept' '' undo -b db -l bundled -x none

@@ -1,5 +1,6 @@
 //! Standard output, with a hint for people after an answer that refuses a request: which name may
 //! have been meant, or what to request instead. The answers are written unchanged.
+use crate::frontend::databases::Place;
 use crate::frontend::hints::{tell_hint, tell_near};
 use crate::frontend::typing::FileOptions;
 use log::info;
@@ -17,6 +18,7 @@ pub struct Answers<'a> {
     rt: &'a HostRuntime,
     inner: Stdout,
     base: Option<&'a [u8]>,
+    place: Place<'a>,
     files: FileOptions<'a>,
     answer: Vec<u8>,
     lacks: bool,
@@ -25,13 +27,19 @@ pub struct Answers<'a> {
 
 impl<'a> Answers<'a> {
     /// Creates standard output with hints. If the database is known, hints on names follow each
-    /// answer. Otherwise `tell_all` prints them after all answers. Commands in hints name the given
-    /// files.
-    pub fn new(rt: &'a HostRuntime, base: Option<&'a [u8]>, files: FileOptions<'a>) -> Answers<'a> {
+    /// answer. Otherwise `tell_all` prints them after all answers. Commands in hints name the place
+    /// of the database, and the given files.
+    pub fn new(
+        rt: &'a HostRuntime,
+        base: Option<&'a [u8]>,
+        place: Place<'a>,
+        files: FileOptions<'a>,
+    ) -> Answers<'a> {
         Answers {
             rt,
             inner: rt.stdout(),
             base,
+            place,
             files,
             answer: Vec::new(rt.alloc()),
             lacks: false,
@@ -42,7 +50,7 @@ impl<'a> Answers<'a> {
     /// Prints the hints that follow all answers, on names of this database.
     pub fn tell_all(&self, database: &[u8]) {
         for name in &self.unknown {
-            tell_near(self.rt, self.files.base, database, name.as_str());
+            tell_near(self.rt, self.place, database, name.as_str());
         }
     }
 
@@ -67,7 +75,7 @@ impl<'a> Answers<'a> {
         }
         let base = self.base;
         match base {
-            Some(database) => tell_near(self.rt, self.files.base, database, name),
+            Some(database) => tell_near(self.rt, self.place, database, name),
             None => self.unknown.push(String::from_str(self.rt.alloc(), name)?)?,
         }
         Ok(())

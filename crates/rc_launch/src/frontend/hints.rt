@@ -56,11 +56,7 @@ pub struct Seen<'a> {
 }
 
 impl<'a> Seen<'a> {
-    pub fn new(file: Option<&'a str>, base: Option<&'a [u8]>, input: Option<&'a [u8]>) -> Seen<'a> {
-        Seen::at(Place::of(file), base, input)
-    }
-
-    pub fn at(place: Place<'a>, base: Option<&'a [u8]>, input: Option<&'a [u8]>) -> Seen<'a> {
+    pub fn new(place: Place<'a>, base: Option<&'a [u8]>, input: Option<&'a [u8]>) -> Seen<'a> {
         Seen { place, base, input }
     }
 
@@ -192,13 +188,9 @@ fn behind_live(
 }
 
 /// Prints the name of a database that may have been meant by an unknown name. The database stands
-/// in a file or on standard input.
-pub fn tell_near(rt: &HostRuntime, file: Option<&str>, database: &[u8], name: &str) {
-    tell_found(
-        rt,
-        HINT,
-        near_hint(rt.alloc(), Place::of(file), database, name),
-    );
+/// at this place.
+pub fn tell_near(rt: &HostRuntime, place: Place<'_>, database: &[u8], name: &str) {
+    tell_found(rt, HINT, near_hint(rt.alloc(), place, database, name));
 }
 
 /// Returns the hint for a fault that needs no second look.

@@ -115,7 +115,7 @@ fn query_on(
     let reader = &mut Noted::new(&mut typed);
     let writer = &mut Noted::new(rt.stdout());
     let status = run_query(rt.alloc(), &query, base, reader, writer, &mut told);
-    let seen = Seen::at(place, base, typed.kept());
+    let seen = Seen::new(place, base, typed.kept());
     behind_session(rt, session, live, None, &seen, &told);
     drop(told);
     drop(typed);
