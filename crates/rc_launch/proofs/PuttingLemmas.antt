@@ -9,11 +9,13 @@ use Rattle.rc_livetext.specs.Spelling.{spelling}
 use Rattle.rc_historytext.specs.Framing.{FramedText, IsFraming}
 use Rattle.rc_historytext.specs.Keeping.{IsKept}
 use Rattle.rc_historytext.specs.Updates.{KeepsLeft, KeepsTwice}
-use Rattle.rc_historytext.specs.Updating.{IsEntered}
+use Rattle.rc_historytext.specs.Updating.{IsBegun, IsEntered}
 use Rattle.rc_historytext.specs.declared.keeping.Keeping.{Keeping}
 use Rattle.rc_historytext.specs.declared.keeping.Keeping.TheVariants.{Step}
+use Rattle.rc_historytext.proofs.Presents.{first_stands}
 use Rattle.rc_serve.specs.Keeping.{IsKeptOnce}
 use Rattle.rc_cli.specs.Putting.{KeptTwice, PutsBy}
+use Rattle.rc_launch.specs.Frames.{IsToBegin}
 use Rattle.rc_launch.specs.HeldHistory.{IsAlone, history_held, history_in}
 use Rattle.rc_launch.specs.Putting.{IsKeptThere, IsPutAs, IsPutBy, IsPutIn, Manner, Puts}
 use Rattle.rc_launch.specs.Putting.{announced, begins_next, behind, manner_of, stepping}
@@ -77,6 +79,22 @@ put_held (History framed) manner text frame left bytes put held line = (
   ),
 )
 
+-- what a put begins
+put_begun : (was : Frame) (manner : Manner) (text : List ℕ) (frame : Frame) (left : Manner)
+    (base : List ℕ) → IsPutBy was manner text frame left → IsToBegin base was
+    → (left ≡ behind manner) × ((first : List ℕ) × (history_in frame ≡ Some first)
+    × IsBegun base text first)
+put_begun (Alone found) manner text frame left base put begins = absurd begins
+put_begun (Begins database) manner text frame left base put begins = (
+  put.0,
+  (
+    put.1.0,
+    put.1.1,
+    subst (λ (b : List ℕ). IsBegun b text put.1.0) begins put.1.2,
+  ),
+)
+put_begun (History framed) manner text frame left base put begins = absurd begins
+
 -- what a frame holds of which these are the history before, the way and the session
 pub kept_there : (f : FramedText) (was text : List ℕ) (keeping : Keeping) → f.base ≡ was
     → f.keeping ≡ keeping → f.kept ≡ text → IsFraming f → IsKeptThere keeping was text f.whole
@@ -99,6 +117,15 @@ puts_step next old new text bytes puts holds =
     (subst (λ (m : Manner). IsPutBy old.frame m text new.frame (manner_of new)) holds.1 puts)
     holds.0 refl in
     (put.1.0, step_kept bytes text put.1.0 put.1.2, (put.1.1, put.0))
+
+-- a step of such a command puts the text with which a history begins
+puts_first : (next : Option Next) (old new : LiveStore) (base text : List ℕ)
+    → Puts old text new → IsToBegin base old.frame → manner_of old ≡ stepping next
+    → (first : List ℕ) × IsBegun base text first × HoldsFor next new first
+puts_first next old new base text puts begins is =
+    let put = put_begun old.frame (stepping next) text new.frame (manner_of new) base
+    (subst (λ (m : Manner). IsPutBy old.frame m text new.frame (manner_of new)) is puts) begins in
+    (put.1.0, put.1.2, (put.1.1, put.0))
 
 -- a text is put where an update has entered its database
 pub puts_entered : (next : Next) (old new : LiveStore) (text bytes : List ℕ)
@@ -136,6 +163,21 @@ keeps_twice next d here line old new bytes twice holds =
     let first = puts_step next old twice.0 (spelling d here) bytes twice.1 holds in
     let left = keeps_left next d here line twice.0 new first.0 twice.2 first.2 in
     (left.0, (first.0, first.1, left.1), left.2)
+
+-- a history begins with a line where it stands, and what a step leaves of that is put there
+pub begins_twice : (next : Option Next) (d : Database) (here line : Line) (old new : LiveStore)
+    (base : List ℕ) → KeptTwice Puts d here line old new → IsToBegin base old.frame
+    → manner_of old ≡ stepping next
+    → (first : List ℕ) × IsBegun base (spelling d here) first
+    × ((is : List ℕ) × KeepsTwice d here line first is × HoldsFor next new is)
+begins_twice next d here line old new base twice begins is =
+    let first = puts_first next old twice.0 base (spelling d here) twice.1 begins is in
+    let there = first_stands base (spelling d here) first.0 first.1 in
+    let left = keeps_left next d here line twice.0 new first.0 twice.2 first.2 in (
+      first.0,
+      first.1,
+      (left.0, (first.0, inl (there, refl), left.1), left.2),
+    )
 
 -- where a file is named
 pub puts_twice : (path : Option (List ℕ)) (d : Database) (here line : Line) (old new : LiveStore)

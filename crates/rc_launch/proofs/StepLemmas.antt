@@ -1,5 +1,6 @@
 -- A command of several steps from where its history stands, once what was cut short is taken back.
-use Rattle.std.proofs.Common.{◌≡◌, ◌≢◌, ◌∙◌, ◌⊎◌, ℕ, Bool, List, [], Option, None, false, true}
+use Rattle.std.proofs.Common.{◌≡◌, ◌≢◌, ◌∙◌, ◌⊎◌, ◌<◌, ◌^◌, ℕ, Bool, List, []}
+use Rattle.std.proofs.Common.{Option, None, false, true}
 use Rattle.std.proofs.Common.{◌∷◌, Some, IfErr, IfOk, IfSome, IsSome, Result, Ok, Err, ap, arith}
 use Rattle.std.proofs.Common.{inl, inr, length, option_map, refl, subst, sym}
 use Rattle.std.proofs.lemmas.Bool.{false≢true}
@@ -18,19 +19,24 @@ use Rattle.rc_args.specs.UpdateAsked.{update_ask_of}
 use Rattle.rc_args.specs.declared.update_words.UpdateRequest.{UpdateRequest}
 use Rattle.rc_cli.specs.SessionFaults.{status_of}
 use Rattle.rc_cli.specs.UpdateEnds.{Leads as LeadsUpdate}
+use Rattle.rc_cli.specs.declared.sessions.keeping.LiveFile.{LiveFile}
 use Rattle.rc_cli.specs.declared.sessions.keeping.LiveFile.TheVariants.{Text}
+use Rattle.rc_launch.specs.Anew.{CarriesFirst, IsBegunBy, LeadsAnew}
+use Rattle.rc_launch.specs.Frames.{IsToBegin}
 use Rattle.rc_launch.specs.Halted.{HasHalted, IsBehindRun, IsRefusedOn}
-use Rattle.rc_launch.specs.HeldHistory.{Leads, LeadsOn, history_held}
+use Rattle.rc_launch.specs.HeldHistory.{Leads, LeadsOn, history_held, history_in}
 use Rattle.rc_launch.specs.Loading.{bytes_of}
 use Rattle.rc_launch.specs.Putting.{Announces, Puts, manner_of, stepping}
-use Rattle.rc_launch.specs.TwoSteps.{CarriesBy, IsKeptUpdate, IsTaken, IsToUpdate, StopsBefore}
-use Rattle.rc_launch.specs.TwoSteps.{ending_after}
+use Rattle.rc_launch.specs.TwoSteps.{CarriesBy, IsInForm, IsKeptUpdate, IsTaken, IsToUpdate}
+use Rattle.rc_launch.specs.TwoSteps.{StopsBefore, ending_after}
+use Rattle.rc_launch.specs.declared.live_store.Frame.{Frame}
+use Rattle.rc_launch.specs.declared.live_store.Frame.TheVariants.{Alone, Begins, History}
 use Rattle.rc_launch.specs.declared.live_store.LiveStore.{LiveStore}
 use Rattle.rc_launch.specs.declared.live_store.Next.{Next}
 use Rattle.rc_launch.specs.declared.texts.FileText.{FileText}
 use Rattle.rc_launch.specs.declared.two_steps.Texts.{Texts}
 use Rattle.rc_launch.proofs.ReadLemmas.{made_so}
-use Rattle.rc_launch.proofs.UpdateLemmas.{StepsLeft, carries_over}
+use Rattle.rc_launch.proofs.UpdateLemmas.{StepsLeft, carries_first, carries_over}
 
 -- texts that were copied of the history that is held
 pub texts_stand : {E : Type 0} (made : Result Texts E) (texts : Texts) (store : LiveStore)
@@ -153,7 +159,8 @@ module _ (request : UpdateRequest) (new base : List ℕ) (session : Bor (List �
     (to : IsToUpdate new (conversions_of request.conversions.items) old)
     (held : history_held old ≡ Some was) (present : IsPresent was base session.now) where
   abbrev Left : Ending → Database → (done : List ℕ) → Type 0
-  Left ending d done = StepsLeft ending (conversions_of request.conversions.items) d was done
+  Left ending d done =
+      StepsLeft (IsInForm was) ending (conversions_of request.conversions.items) d was done
 
   left_by : (ending : Ending) (d : Database) (done : List ℕ) → IsDatabase d
       → new ≡ database_text d → history_held between ≡ Some done → Left ending d done
@@ -192,6 +199,65 @@ module _ (request : UpdateRequest) (new base : List ℕ) (session : Bor (List �
       (subst (λ (b : List ℕ). IsPresent was b session.now) from_spells.2 present) (held, to.3)
       leads.4 in
       left_by ending d there.0 to_spells.0 to_spells.2 there.1 there.2 settles
+
+-- a frame that is to begin a history holds none
+pub begins_bare : (base : List ℕ) (frame : Frame) → IsToBegin base frame → history_in frame ≡ None
+begins_bare base (Begins database) begins = refl
+begins_bare base (Alone found) begins = absurd begins
+begins_bare base (History framed) begins = absurd begins
+
+-- what ended with false did not end with true, nor with an error
+pub not_taken : (result : Result Bool ℕ) (taken : Bool) → result ≡ Ok false → result ≡ Ok taken
+    → taken ≡ true → ⊥
+not_taken result taken none is test =
+    let bad : ◌≡◌ {A = Result Bool ℕ} (Ok false) (Ok true) = sym none ∙ is ∙ ap Ok test in cc
+
+pub not_stopped : (result : Result Bool ℕ) (code : ℕ) → result ≡ Ok false → result ≡ Err code
+    → ⊥
+not_stopped result code none is =
+    let bad : ◌≡◌ {A = Result Bool ℕ} (Ok false) (Err code) = sym none ∙ is in cc
+
+-- an update of a store that is to begin a history
+module _ (request : UpdateRequest) (new base : List ℕ) (file : LiveFile)
+    (old between is : LiveStore) (kept : IsKeptUpdate request)
+    (to : IsToUpdate new (conversions_of request.conversions.items) old)
+    (begins : IsToBegin base old.frame) (fits : request.session.bound < 2 ^ 32) where
+  first_by : (ending : Ending) (d : Database) (first done : List ℕ) → IsDatabase d
+      → new ≡ database_text d → history_held between ≡ Some done
+      → StepsLeft (Unit {0}) ending (conversions_of request.conversions.items) d first done
+      → SettlesBy ending between is
+      → LeadsOn first is (CarriesFirst ending new (conversions_of request.conversions.items))
+  first_by Done d first done is_db text there left settles =
+      let stop = settles done there in
+      (stop.0, stop.1, (d, is_db, text, (done, left tt, stop.2)))
+  first_by Refused d first done is_db text there left settles = absurd left
+  first_by Hindered d first done is_db text there left settles = (
+    done,
+    subst (λ (s : LiveStore). history_held s ≡ Some done) (sym settles) there,
+    (d, is_db, text, left tt),
+  )
+
+  pub updates_first : (ending : Ending)
+      → LeadsUpdate Puts Announces base new (update_ask_of request) file ending old between
+      → SettlesBy ending between is
+      → LeadsAnew ending (IsBegunBy base request.session.bound file)
+      (CarriesFirst ending new (conversions_of request.conversions.items)) old.frame is
+  updates_first Done (inl refused) settles = let bad : Done ≡ Refused = refused.0 in cc
+  updates_first Refused (inl refused) settles =
+      inl (refl, ap (λ (s : LiveStore). s.frame) (settles ∙ refused.1))
+  updates_first Hindered (inl refused) settles = let bad : Hindered ≡ Refused = refused.0 in cc
+  updates_first ending (inr leads) settles =
+      let from_spells = leads.2 in
+      let to_spells = leads.3 in
+      let there = carries_first (update_ask_of request) ending to.0 leads.0 leads.1 file base old
+      between (request.session.states, fits) from_spells.0 from_spells.1 to_spells.0 to_spells.1
+      kept.1 kept.0 (to.1 ∙ to_spells.2) to.2 from_spells.2 begins to.3 leads.4 in
+      inr (
+        there.0,
+        there.1,
+        first_by ending leads.1 there.0 there.2.0 to_spells.0 to_spells.2
+            there.2.1 there.2.2 settles,
+      )
 
 -- a list without conversions asks for none
 none_asked : (list : List Given) → length list ≡ 0 → conversions_of list ≡ []

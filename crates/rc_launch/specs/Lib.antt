@@ -45,6 +45,8 @@ pub mod HistoryJournal
 pub mod Back
 -- What an update and a restart make of a history: both first take back what was cut short.
 pub mod TwoSteps
+-- What an update makes of a file that held no history: it begins one.
+pub mod Anew
 -- An undo or a redo is asked for, and led so.
 pub mod Ways
 -- What a check has repaired of what it found, and its status.

@@ -16,6 +16,8 @@ ghost use Rattle.rc_cli.specs.declared.sessions.keeping.LiveFile.{LiveFile};
 ghost use Rattle.rc_historytext.specs.Halting.{Halts};
 ghost use Rattle.rc_historytext.specs.Travelling.{Travels};
 ghost use Rattle.rc_launch.specs.Alone.{IsServed, StaysInside};
+ghost use Rattle.rc_launch.specs.Anew.{UpdatesAnew};
+ghost use Rattle.rc_launch.specs.Frames.{IsToBegin};
 ghost use Rattle.rc_launch.specs.Halted.{HasHalted, IsRefusedOn};
 ghost use Rattle.rc_launch.specs.HeldHistory.{Leads, history_held, session_kept};
 ghost use Rattle.rc_launch.specs.HistoryJournal.{AnswersJournal};
@@ -132,6 +134,15 @@ pub fn carry_out<'x, T: Threads + Wait + Sync, R: Read, W: Write, F: Write>(
         Leads (store_of devices.old.outputs.keeper) (store_of devices.new.outputs.keeper)
         (UpdatesFrom ending (bytes_of opened.now.loaded.new)
         (conversions_of request.conversions.items)) }
+
+    // If FILE holds no history, an update begins one with the database and the session that were
+    // read, and carries that over by both steps. With status 1 it begins none.
+    ensures begins { (request : UpdateRequest) → AsksUpdate opened.now.loaded.command request →
+        NamesFile opened.now.loaded → (ending : Ending) → result.code ≡ status_of ending →
+        IsToBegin (bytes_of opened.now.loaded.base)
+        (store_of devices.old.outputs.keeper).frame →
+        UpdatesAnew opened.now request ending (store_of devices.old.outputs.keeper).frame
+        (store_of devices.new.outputs.keeper) }
 
     // A restart first takes back what an undo takes back inside the present generation, and then
     // takes both of its steps there. Its status says where that has ended.

@@ -1,8 +1,8 @@
 //! Commands of two steps, an update and a restart. The state between them is passed. Each first
 //! takes back what was cut short before it: an update all of it, a restart what an undo takes back
 //! without crossing a border.
-ghost use Rattle.std.specs.Prelude.{◌≡◌, ◌≢◌, ℕ, List, None, Some, IfErr, IfOk, IfSome, IsTrue, Ok};
-ghost use Rattle.std.specs.Prelude.{OnOk, false, length, map, string_bytes, true};
+ghost use Rattle.std.specs.Prelude.{◌≡◌, ◌≢◌, ◌<◌, ◌^◌, ℕ, List, None, Some, IfErr, IfOk, IfSome};
+ghost use Rattle.std.specs.Prelude.{IsTrue, Ok, OnOk, false, length, map, string_bytes, true};
 ghost use Rattle.rc_streams.specs.Noting.{HasFailed};
 ghost use Rattle.rc_update.specs.Conversions.{conversions_of};
 ghost use Rattle.rc_historytext.specs.Halting.{Halts};
@@ -12,6 +12,8 @@ ghost use Rattle.rc_historytext.specs.Updating.{IsSettled};
 ghost use Rattle.rc_serve.specs.declared.ending.Ending.{Ending};
 ghost use Rattle.rc_cli.specs.SessionFaults.{status_of};
 ghost use Rattle.rc_cli.specs.Storing.{store_of};
+ghost use Rattle.rc_launch.specs.Anew.{UpdatesAnew};
+ghost use Rattle.rc_launch.specs.Frames.{IsToBegin};
 ghost use Rattle.rc_launch.specs.Halted.{HasHalted, IsRefusedOn};
 ghost use Rattle.rc_launch.specs.HeldHistory.{Leads, LeadsOn, history_held};
 ghost use Rattle.rc_launch.specs.Loading.{NamesFile, bytes_of};
@@ -58,6 +60,11 @@ pub(crate) fn update<'x, T: Threads + Wait + Sync, R: Read, W: Write, F: Write>(
         Leads (store_of devices.old.outputs.keeper) (store_of devices.new.outputs.keeper)
         (UpdatesFrom ending (bytes_of execution.now.opened.now.loaded.new)
         (conversions_of request.now.conversions.items)) }
+    ensures begins { (ending : Ending) → result ≡ status_of ending → IsKeptUpdate request.now →
+        IsToBegin (bytes_of execution.now.opened.now.loaded.base)
+        (store_of devices.old.outputs.keeper).frame →
+        UpdatesAnew execution.now.opened.now request.now ending
+        (store_of devices.old.outputs.keeper).frame (store_of devices.new.outputs.keeper) }
 {
     match all_taken_back(execution, devices) {
         Ok(true) => hindered(carry_over(execution, request, devices)),
@@ -96,6 +103,10 @@ fn all_taken_back<'x, T: Threads + Wait + Sync, R: Read, W: Write, F: Write>(
     requires writer { HasFailed devices.old.outputs.writer → ⊥ }
     ensures reader { OnOk result (HasFailed devices.new.reader → ⊥) }
     ensures writer { OnOk result (HasFailed devices.new.outputs.writer → ⊥) }
+    ensures bare { history_held (store_of devices.old.outputs.keeper) ≡ None →
+        result ≡ Ok false }
+    ensures still { history_held (store_of devices.old.outputs.keeper) ≡ None →
+        store_of devices.new.outputs.keeper ≡ store_of devices.old.outputs.keeper }
     ensures fault { IfErr result (λ code. code ≢ 0) }
     ensures taken { IfOk result (λ taken. NamesFile execution.now.opened.now.loaded →
         Leads (store_of devices.old.outputs.keeper) (store_of devices.new.outputs.keeper)
@@ -137,8 +148,10 @@ fn is_cut_in<R, W, F>(
     alloc: Global,
     devices: &Devices<R, W, F, LiveStore<'_>>,
 ) -> Result<bool, HistoryFault>
-    ensures { IfOk result (λ goes. (was : List ℕ) →
+    ensures goes { IfOk result (λ goes. (was : List ℕ) →
         history_held (store_of devices.now.outputs.keeper) ≡ Some was → GoesOn false was goes) }
+    ensures bare { history_held (store_of devices.now.outputs.keeper) ≡ None →
+        result ≡ Ok false }
 {
     match devices.outputs.keeper.store.history() {
         Some(history) => goes_on_behind(alloc, history, false),
@@ -174,6 +187,9 @@ fn taken_back<'x, T: Threads + Wait + Sync, R: Read, W: Write, F: Write>(
     ensures reader { OnOk result (HasFailed devices.new.reader → ⊥) }
     ensures writer { OnOk result (HasFailed devices.new.outputs.writer → ⊥) }
     ensures cut { IfOk result (λ taken. is_cut ≡ Ok taken) }
+    ensures whole { is_cut ≡ Ok false → result ≡ Ok false }
+    ensures still { is_cut ≡ Ok false →
+        store_of devices.new.outputs.keeper ≡ store_of devices.old.outputs.keeper }
     ensures fault { IfErr result (λ code. code ≢ 0) }
     ensures taken { IfOk result (λ taken. NamesFile execution.now.opened.now.loaded →
         Leads (store_of devices.old.outputs.keeper) (store_of devices.new.outputs.keeper)
@@ -265,6 +281,11 @@ fn carry_over<'x, T: Threads + Wait + Sync, R: Read, W: Write, F: Write>(
         Leads (store_of devices.old.outputs.keeper) (store_of devices.new.outputs.keeper)
         (CarriesBy ending (bytes_of execution.now.opened.now.loaded.new)
         (conversions_of request.now.conversions.items)) }
+    ensures begins { (ending : Ending) → result ≡ status_of ending → IsKeptUpdate request.now →
+        IsToBegin (bytes_of execution.now.opened.now.loaded.base)
+        (store_of devices.old.outputs.keeper).frame →
+        UpdatesAnew execution.now.opened.now request.now ending
+        (store_of devices.old.outputs.keeper).frame (store_of devices.new.outputs.keeper) }
 {
     let opened = execution.opened;
     let Some(new) = opened.new_base() else {
@@ -284,11 +305,17 @@ fn carry_over<'x, T: Threads + Wait + Sync, R: Read, W: Write, F: Write>(
         Some(Err(_)) => fail_on(b"Memory", devices),
         None => {
             let base = bytes_of(&opened.loaded.base);
+            bounds_fit(request.session.bound);
             let code = serve_update(execution, request, base, read_of(opened), devices);
             settled(code, devices)
         }
     }
 }
+
+// Proves, as a law, that a bound on the number of states fits its type.
+fn bounds_fit(bound: u32)
+    ensures { bound < 2 ^ 32 }
+{}
 
 // Carries the texts of the present generation over to the new database, and returns the status. If
 // it is their database already, and there are no conversions, it is not entered.
@@ -354,6 +381,7 @@ pub(crate) fn texts_in<R, W, F>(
         IsPresent was texts.database.items texts.session.items)) }
     ensures none { result ≡ None →
         history_held (store_of devices.now.outputs.keeper) ≡ None }
+    ensures bare { history_held (store_of devices.now.outputs.keeper) ≡ None → result ≡ None }
 {
     let history = devices.outputs.keeper.store.history()?;
     Some(texts_of(alloc, history))

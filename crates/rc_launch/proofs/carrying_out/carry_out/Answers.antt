@@ -13,6 +13,7 @@ use Rattle.rc_update.specs.Conversions.{conversions_of}
 use Rattle.rc_cli.specs.Storing.{store_of}
 use Rattle.rc_historytext.specs.Halting.{Halts}
 use Rattle.rc_historytext.specs.Travelling.{Travels}
+use Rattle.rc_launch.specs.Anew.{UpdatesAnew}
 use Rattle.rc_launch.specs.Back.{ComesBackTo, StopsBack}
 use Rattle.rc_launch.specs.Halted.{HasHalted, IsRefusedOn}
 use Rattle.rc_launch.specs.HeldHistory.{LeadsOn}
@@ -72,6 +73,19 @@ returns-in-Update-clause-updates g c request asks named ending same was held =
     (c.update.ensures.ended ending (sym c.status_of-in-Update.ensures ∙ same) named
     (subst (λ (r : UpdateRequest). IsKeptUpdate r) (sym led) kept) was held)
 
+pub returns-in-Update-clause-begins : goal.returns-in-Update-clause-begins
+returns-in-Update-clause-begins g c request asks named ending same begins =
+    let led = c.in-Update.ensures.update request asks in
+    let kept : IsKeptUpdate request = (
+      subst (λ command. (session_ask_of (command_session command)).live ≢ None) asks.0 named,
+      asks.1,
+    ) in
+    subst (λ (r : UpdateRequest). UpdatesAnew c.args.opened.now r ending
+    (store_of c.args.devices.now.outputs.keeper).frame
+    (store_of c.update.new.devices.outputs.keeper)) led
+    (c.update.ensures.begins ending (sym c.status_of-in-Update.ensures ∙ same)
+    (subst (λ (r : UpdateRequest). IsKeptUpdate r) (sym led) kept) begins)
+
 pub returns-in-Restart-clause-restarts : goal.returns-in-Restart-clause-restarts
 returns-in-Restart-clause-restarts g c request asks named ending same was held =
     subst (λ (r : NamedRequest). LeadsOn was (store_of c.restart.new.devices.outputs.keeper)
@@ -120,3 +134,27 @@ returns-in-Journal-clause-mends g c request asks = absurd (c.in-Journal.ensures.
 
 pub returns-in-Alone-clause-mends : goal.returns-in-Alone-clause-mends
 returns-in-Alone-clause-mends g c request asks = absurd (c.in-Alone.ensures.mend request asks)
+
+pub returns-in-Way-clause-begins : goal.returns-in-Way-clause-begins
+returns-in-Way-clause-begins g c request asks =
+    absurd (c.in-Way.ensures.update request asks)
+
+pub returns-in-Back-clause-begins : goal.returns-in-Back-clause-begins
+returns-in-Back-clause-begins g c request asks =
+    absurd (c.in-Back.ensures.update request asks)
+
+pub returns-in-Restart-clause-begins : goal.returns-in-Restart-clause-begins
+returns-in-Restart-clause-begins g c request asks =
+    absurd (c.in-Restart.ensures.update request asks)
+
+pub returns-in-Mend-clause-begins : goal.returns-in-Mend-clause-begins
+returns-in-Mend-clause-begins g c request asks =
+    absurd (c.in-Mend.ensures.update request asks)
+
+pub returns-in-Journal-clause-begins : goal.returns-in-Journal-clause-begins
+returns-in-Journal-clause-begins g c request asks =
+    absurd (c.in-Journal.ensures.update request asks)
+
+pub returns-in-Alone-clause-begins : goal.returns-in-Alone-clause-begins
+returns-in-Alone-clause-begins g c request asks =
+    absurd (c.in-Alone.ensures.update request asks)
