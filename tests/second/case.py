@@ -11,6 +11,10 @@ ON_FILES = ("restart", "seal", "status")
 WAY_WORDS = {"u": "start", "d": "stop"}
 
 
+def is_history(text):
+    return text is not None and text.startswith(b"undorc-history ")
+
+
 class Case:
     def __init__(self, word):
         self.word = word
@@ -33,6 +37,7 @@ class Case:
         self.bound = None
         self.force = False
         self.limit = 0
+        self.to = None
         self.workers = None
         self.trees = []
         self.has_own_word = False
@@ -46,6 +51,22 @@ class Case:
         """Whether the lock of the file of -l is taken: not where it is refused earlier."""
         moves = self.word in RUNS + EDITS + ("session", "update", "restart", "seal") and not self.dry
         return moves and self.keeps and not self.early
+
+    @property
+    def is_wrong(self):
+        """Whether the command line is wrong: it names no file. Or it has --to, and -n, or no database is named for a
+        file that has none."""
+        if self.word in EDITS + LOOKS and not self.keeps:
+            return True
+        has_base = self.base is not None and not self.in_front or is_history(self.kept)
+        return self.to is not None and (self.dry or not self.keeps or not has_base)
+
+    @property
+    def kind(self):
+        """The word, and what of its options tells it from others of that word."""
+        if self.to is not None:
+            return self.word + " --to"
+        return self.word + " without -B" * (self.word == "update" and self.other is None)
 
     @property
     def looks_at_none(self):
@@ -67,7 +88,7 @@ class Case:
         words = [self.spelled.encode()]
         if self.word == "compile":
             return words + [b"tree%d" % k for k in range(len(self.trees))]
-        if not self.in_front:
+        if self.base is not None and not self.in_front:
             words += [b"-b", b"base"]
         if self.word == "db":
             words += [b"-l", b"kept"] if self.keeps else []
@@ -84,7 +105,8 @@ class Case:
         words += [b"-l", b"kept"] if self.keeps else []
         words += [b"-n", b"%d" % self.bound] if self.bound else []
         words += [b"-n"] if self.dry else []
-        words += [b"-B", b"other"] if self.word == "update" else []
+        words += [b"-B", b"other"] if self.word == "update" and self.other is not None else []
+        words += [] if self.to is None else [b"--to", b"%d" % self.to]
         words += [] if self.renames is None else [b"-f", b"renames"]
         for name in self.restarts:
             words += [b"-R", name]

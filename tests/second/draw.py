@@ -450,6 +450,10 @@ class Drawer:
             case.ask = self.ask(base)
             case.ask.limit = self.pick([0, 0, 7])
             case.has_own_word = self.one_in(3)
+        elif case.word == "undo" and self.one_in(3):
+            case.to = self.pick([0, 0, 1, 1, 2, 3, 7, 4294967295])
+            case.dry = case.dry and self.one_in(6)
+            case.in_front = case.in_front and self.one_in(6)
         elif case.word in RUNS and not case.dry:
             case.limit = self.pick([0, 0, 7])
         elif case.word in EDITS:
@@ -545,6 +549,9 @@ class Drawer:
         if not self.one_in(8):
             case.kept = self.kept(base, self.pick([3, 4, OLD_BOUND]), 12)
         case.failing = self.some(self.failing(base) + self.failing(new), 2)
+        if self.one_in(4):
+            # The new database is that of -b.
+            case.other = None
         return case
 
     def older(self, text, bound):

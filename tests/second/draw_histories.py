@@ -1,4 +1,4 @@
-"""Draws commands in a row on one file: changes, edits, updates, and undos and redos across them."""
+"""Draws commands in a row on one file: changes, edits, updates, and undos, also to a state, and redos across them."""
 
 import copy
 
@@ -29,13 +29,14 @@ class HistoryDrawer(Drawer):
         return Line(states[:bound], self.random.randrange(min(len(states), bound)), bound)
 
     def begin(self):
-        """The file with which a history begins, how many commands follow, and how many updates there are beside 20 others."""
+        """The file with which a history begins, if any; how many commands follow; how many updates there are beside 20
+        others."""
         base = self.base()
         while len(base.services) < 3:
             base = self.base()
         self.texts = [text_of(base)]
         self.updates = self.pick([3, 3, 5, 12])
-        return self.first_kept(base), self.pick([6, 8, 12, 24])
+        return None if self.one_in(10) else self.first_kept(base), self.pick([6, 8, 12, 24])
 
     def next_case(self, kept):
         """The next command on a file."""
@@ -52,7 +53,7 @@ class HistoryDrawer(Drawer):
         begin, end = self.pick(history.places)
         line = self.mutated_line(case.kept[begin : end - 1], self.pick([5, 6, 8, 9])) + b"\n" * (not self.one_in(20))
         other = Case(self.pick(("change",) + LOOKS + ("status",)))
-        other.base, other.keeps, other.ask = case.base, True, Ask("u", 0, [])
+        other.base, other.keeps, other.ask = case.base or history.now().text, True, Ask("u", 0, [])
         other.failing, other.workers = [], None
         other.kept = case.kept[:begin] + line + case.kept[end:]
         return other
@@ -69,7 +70,24 @@ class HistoryDrawer(Drawer):
         # Without -b a command leaves a live text alone as one.
         case.in_front = history.is_plain and case.word in ONE_SHOTS and self.one_in(2)
         self.filled(case, base)
+        if case.word == "undo" and self.one_in(2):
+            self.way_back(case, history)
+        elif case.word == "update":
+            self.passage(case, base, history)
         return case
+
+    def way_back(self, case, history):
+        """An undo to a state: a stop before the current one mostly, or any other number, perhaps without -b. Now and
+        then the command line is wrong."""
+        at = history.current()
+        stops = [number for number in range(at) if history.can_go_back(number)] or [at]
+        passed = [number for number in range(at) if number not in stops] or stops
+        case.to = self.pick(self.pick([stops] * 5 + [passed, passed, [at], [at + 1, at + 2, at + 5, 4294967295]]))
+        case.limit = self.pick([0, 0, 7])
+        case.dry = self.one_in(30)
+        case.in_front = case.in_front and self.one_in(3)
+        if not history.is_plain and self.one_in(4):
+            case.base = None
 
     def is_left_out(self, case, history):
         """Whether the program does otherwise in such a case than the documents say."""
@@ -100,21 +118,35 @@ class HistoryDrawer(Drawer):
             case.words = self.fits(base, 3) or [self.fitting(self.word(base))][: case.word == "restart"]
         elif case.word == "session":
             case.own = self.ended(self.lines(base, 5))
-        elif case.word == "update":
-            self.passage(case, base)
+            case.bound = self.pick([None, 3, 4, 6]) if case.kept is None else None
 
-    def passage(self, case, base):
-        """Another database, which may be one of before."""
+    def passage(self, case, base, history):
+        """Another database, which may be one of before, or the present one. Without -B it is that of -b, which is then
+        no other than the present one mostly, where the file has none."""
         new = self.next_base(base)
         if self.one_in(3):
             case.renames = self.renames(base, new)
+        case.other = self.pick(self.texts) if self.one_in(5) else text_of(new)
+        has_two = not self.one_in(2)
+        if not has_two and (self.one_in(5) or history.is_plain and not self.one_in(8)):
+            case.other, case.renames = history.now().text, self.renames_within(base) if self.one_in(3) else None
+        new = read(case.other, True)[0]
         if self.one_in(5):
             case.restarts = self.some(sorted(set(base.services) & set(new.services)), 3)
-        case.other = self.pick(self.texts) if self.one_in(5) else text_of(new)
         if case.other in self.texts and not self.one_in(3):
             case.renames, case.restarts = None, []
         if case.failing:
-            new = read(case.other, True)[0]
             case.failing = [one for one in case.failing if one[0] == b"down"] if self.one_in(2) else []
             case.failing += [one for one in self.failing(new) if one[0] == b"up"]
         self.texts.append(case.other)
+        if not has_two:
+            case.base, case.other = case.other, None
+        elif not history.is_plain and self.one_in(6):
+            case.base = None
+
+    def renames_within(self, base):
+        """Some services go on as others of the same database, or restart."""
+        names = self.some(sorted(base.services), 3)
+        others = self.random.sample(sorted(base.services), len(names))
+        ends = [b" restart" if name == other else b" -> " + other for name, other in zip(names, others)]
+        return b"".join(name + end + b"\n" for name, end in zip(names, ends))

@@ -132,6 +132,8 @@ def difference(bench, case):
         word = wanted.fault.split()[1]
         if is_circle(fault, word, wanted.circle):
             fault = wanted.fault
+    if wanted.fault is None:
+        fault = None if fault else b""
     given = (status, out, reports, fault, kept, left)
     plain = (wanted.status, wanted.out, sorted(wanted.reports), wanted.fault, wanted.kept, case.files(wanted.kept))
     names = ("status", "standard output", "reports", "standard error", "the file of -l", "files")
@@ -159,7 +161,7 @@ def try_history(bench, seed):
     kept, many = drawer.begin()
     for _ in range(many):
         case = drawer.next_case(kept)
-        words.append(case.word)
+        words.append(case.kind)
         if not agrees(bench, case, seed):
             return words, False
         kept = program.run(case).kept if case.kept == kept else kept
@@ -169,7 +171,7 @@ def try_history(bench, seed):
 def try_case(bench, seed):
     """The command of a seed, and whether both agree on it."""
     case = Drawer(random.Random(seed)).case()
-    return [case.word], agrees(bench, case, seed)
+    return [case.kind], agrees(bench, case, seed)
 
 
 def agrees(bench, case, seed):

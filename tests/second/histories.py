@@ -5,6 +5,7 @@ import copy
 import database
 import live
 import plans
+from case import is_history
 from commands import Command, do, entries, fail_by_list, has_failed, task_of
 from forms import Lines, Refusal, is_name, is_number
 
@@ -175,6 +176,24 @@ class History:
         numbers = [self.number(*place) for place in trial.reached]
         return said, [entries[min(pair)].removesuffix(b" ..") for pair in zip(numbers, numbers[1:])]
 
+    def current(self):
+        """The number of the current state among those of all generations."""
+        return self.number(self.at, self.now().line.cursor)
+
+    def can_go_back(self, number):
+        """Whether undos can end on the state of this number: the current one, or a stop before it."""
+        if number >= self.current():
+            return number == self.current()
+        lead = self.journal().split(b"\n")[1:]
+        return number == 0 or not lead[number - 1].endswith(b" ..")
+
+    def go_back(self, number, do_one):
+        """Undos until the state of this number is the current one, or until one is not all done. Their answers."""
+        answers = []
+        while self.current() != number and not (answers and has_failed(answers[-1])):
+            answers.append(self.travel(Command(b"undo"), do_one))
+        return b"".join(answers) or b"ok\n"
+
     def number(self, place, cursor):
         """The number of a state of a generation among those of all."""
         return sum(len(one.line.states) for one in self.generations[:place]) + cursor
@@ -224,15 +243,11 @@ def plain(base, text, line):
 
 
 def history_of(text, kept):
-    """The history of a file; of a live text alone that of this database."""
+    """The history of a file; of a live text alone, and where there is none, that of this database."""
     if is_history(kept):
         return read(kept)
     base = database.read(text, True)[0]
-    return plain(base, text, live.read(base, kept))
-
-
-def is_history(text):
-    return text is not None and text.startswith(b"undorc-history ")
+    return plain(base, text, live.begun(base, kept, None))
 
 
 def counted(lines, word, greatest=None):

@@ -14,7 +14,7 @@ import queries
 import replay
 import sources
 import updates
-from case import EDITS, LOOKS as ONCE_LOOKS, ON_FILES, ONE_SHOTS
+from case import ON_FILES, ONE_SHOTS
 from commands import Command, fail_by_list, first_missing, has_failed, is_silent, read_command
 from forms import Failure, Refusal
 
@@ -22,6 +22,7 @@ LONGEST_LINE = 65536
 LOOKS = (b"live", b"bundles", b"journal")
 # What an undo and a redo that are only shown say of each entry.
 WAYS = {"undo": b"takes back", "redo": b"makes again"}
+NO_KEEPER = b"undorc: -l is missing, or UNDORC_LIVE: the file that keeps what is up\n"
 # Control characters, and how those are written on standard error that have an escape of their own.
 CONTROL = re.compile(rb"[\x00-\x1f\x7f]|\xc2[\x80-\x9f]")
 ESCAPES = {b"\0": rb"\0", b"\t": rb"\t", b"\n": rb"\n", b"\r": rb"\r"}
@@ -29,7 +30,7 @@ ESCAPES = {b"\0": rb"\0", b"\t": rb"\t", b"\n": rb"\n", b"\r": rb"\r"}
 
 class Answer:
     """What a run comes to: `fault` is the line on standard error behind `reports`, those of transitions and of why
-    services move, and `kept` the file of -l."""
+    services move, or None for any line, and `kept` the file of -l."""
 
     def __init__(self, status=0, out=b"", fault=b"", kept=None, circle=None):
         self.status = status
@@ -74,7 +75,7 @@ def begun(case, answer):
     that writes makes a live text alone a history with the database of -b; a session does not."""
     if histories.is_history(case.kept):
         history = histories.read(case.kept)
-        if case.base != history.now().text:
+        if case.base not in (None, history.now().text):
             answer.fault = histories.NOT_THIS
         elif case.locks and case.word not in ("undo", "redo") and history.now().is_passed():
             if case.word != "restart" or not history.is_cut_inside():
@@ -132,6 +133,18 @@ def one_shot(case, answer):
         answer.kept = history.written()
     if has_failed(answer.out):
         answer.status = 2
+
+
+def go_back(case, answer):
+    """Undos back to a state. One that can't be reached is refused. The file is written if one alters the session."""
+    history, _ = begun(case, answer)
+    if not history.can_go_back(case.to):
+        raise Refusal("NoState", case.to)
+    is_there = history.current() == case.to
+    answer.out = history.go_back(case.to, doing(case, answer))
+    session = live.text_of(history.now().base, history.now().line)
+    answer.kept = case.kept if is_there or session == case.kept else history.written()
+    answer.status = 2 if has_failed(answer.out) else 0
 
 
 def doing(case, answer):
@@ -235,7 +248,7 @@ def run_of(case, answer):
         session(case, answer)
         return
     if case.word in ONE_SHOTS:
-        one_shot(case, answer)
+        (one_shot if case.to is None else go_back)(case, answer)
         return
     if case.word in ON_FILES:
         {"restart": restart, "seal": seal, "status": status}[case.word](case, answer)
@@ -256,9 +269,8 @@ def run_of(case, answer):
 
 def run(case):
     answer = Answer(kept=case.kept)
-    if case.word in EDITS + ONCE_LOOKS and not case.keeps:
-        answer.status = 100
-        answer.fault = b"undorc: -l is missing, or UNDORC_LIVE: the file that keeps what is up\n"
+    if case.is_wrong:
+        answer.status, answer.fault = 100, None if case.keeps or case.dry else NO_KEEPER
         return answer
     if case.word != "update" and case.looks_at_none:
         answer.fault = histories.NO_FILE

@@ -4,9 +4,8 @@ import copy
 
 import database
 import live
-from case import EDITS, ON_FILES
+from case import EDITS, ON_FILES, is_history
 from forms import Refusal
-from histories import is_history
 
 # Commands that want a file, and those that want a name.
 KEEPING = ("update",) + ON_FILES

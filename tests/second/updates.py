@@ -86,7 +86,9 @@ def update(case, answer, do_one):
         answer.fault = histories.NO_FILE
     is_history = histories.is_history(case.kept)
     old = histories.read(case.kept).now().base if is_history else database.read(case.base, True)[0]
-    new = database.read(case.other, True)[0]
+    # Without -B the new database is that of -b.
+    text = case.base if case.other is None else case.other
+    new = database.read(text, True)[0]
     for one in found:
         first_missing([old], [(b"", one[0])])
         first_missing([new], [(b"", one[1])])
@@ -98,13 +100,13 @@ def update(case, answer, do_one):
         return
     if history.now().is_passed() and history.can_step(-1):
         answer.out = history.travel(Command(b"undo"), do_one)
-    was_same = is_history and case.other == history.now().text and not found
+    was_same = is_history and text == history.now().text and not found
     if has_failed(answer.out):
         answer.status = 2
     elif was_same:
         answer.out += b"ok\nok\n"
     else:
-        carry_over(case, answer, do_one, Passage(history.now().base, new, found), history)
+        carry_over(text, answer, do_one, Passage(history.now().base, new, found), history)
     answer.kept = history.written()
 
 
@@ -124,8 +126,8 @@ def show(case, answer, way, history):
     answer.reports = list(way.reasons(first.lower))
 
 
-def carry_over(case, answer, do_one, way, history):
-    """Both changes, and the border between them."""
+def carry_over(new, answer, do_one, way, history):
+    """Both changes, and the border between them, to the database of this text."""
     was, line = history.now(), history.now().line
     history.is_plain = False
     down, on, again = asks(way, set(line.now().live))
@@ -139,7 +141,7 @@ def carry_over(case, answer, do_one, way, history):
         was.is_last_passed = has_moved
         renames = [one[:2] for one in way.found if not one[2]]
         session = live.Line([live.State(on(line.now().live), way.new.bundles)], 0, line.bound)
-        behind = histories.Generation(case.other, session, renames=renames)
+        behind = histories.Generation(new, session, renames=renames)
         history.generations[history.at + 1 :] = [behind]
         history.at += 1
         if len(history.generations) > histories.GREATEST:

@@ -96,9 +96,19 @@ echo 0 > status
 judge 'a session that goes back, and becomes a history' 0
 journal_is "at 2 of 5\n$entries"
 expect 1 '' 'undorc: Bad 0\n' '' undo --to 0 -b base -l base -x none
+# A session alone stays one until an undo changes it, and a missing file is not made.
+session_text four > live
+leaves_alone 0 'ok\n' '' --to 4 -x none
+leaves_alone 1 '' 'undorc: NoState 5\n' --to 5 -x none
+leaves_alone 2 'failed web\nblocked db log net\nok\n' '' --to 0 -q -x down:web
 rm live
 goes_back 0 'ok\n' '' --to 0 -x none
 goes_back 1 '' 'undorc: NoState 1\n' --to 1 -x none
+wants 'none\n' ''
+{ [ -e live ] || echo none; } > out
+: > err
+echo 0 > status
+judge 'an undo to a state makes no file' 0
 expect 111 '' 'undorc: Io\n' '' undo --to 0 -b base -l . -x none
 # Command lines.
 cp four live
