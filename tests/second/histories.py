@@ -133,6 +133,10 @@ class History:
         at = self.now().line.cursor + way
         return 0 <= at < len(self.now().line.states) or 0 <= self.at + way < len(self.generations)
 
+    def is_cut(self):
+        """Whether the current state is passed, and an undo leads back from there."""
+        return self.now().is_passed() and self.can_step(-1)
+
     def is_cut_inside(self):
         """Whether the current state is passed, and an undo from there crosses no border."""
         at = self.now().line.cursor

@@ -77,7 +77,7 @@ def begun(case, answer):
         history = histories.read(case.kept)
         if case.base not in (None, history.now().text):
             answer.fault = histories.NOT_THIS
-        elif case.locks and case.word not in ("undo", "redo") and history.now().is_passed():
+        elif case.locks and case.word not in ("undo", "redo") and history.is_cut():
             if case.word != "restart" or not history.is_cut_inside():
                 answer.fault = histories.NOT_FINISHED
         first_missing(history.bases(case.word.encode()), case.failing)

@@ -131,9 +131,12 @@ def carry_over(new, answer, do_one, way, history):
     was, line = history.now(), history.now().line
     history.is_plain = False
     down, on, again = asks(way, set(line.now().live))
-    text = was.written()
+    text, first, is_first_passed = was.written(), line.states[0], was.is_first_passed
     lowered = do_one(history, Command(b"change", ask=down))
     answer.out += lowered
+    # A step leaves the mark of the state on which it begins.
+    if line.states[0] is first:
+        was.is_first_passed = is_first_passed
     has_moved = was.written() != text
     was.is_last_passed = has_moved or was.is_last_passed
     if not has_failed(lowered):
