@@ -435,8 +435,8 @@ history_refused 'undorc: NotJoined 1\n' undo -n -l live
 
 # If no controller is named, nothing moves where any change of an undo or a redo would move a longrun: here the second one of
 # each. With a controller, and where no program is started, all of it is done.
-# unaltered FILE: the file of the session has the text of this one
-unaltered() {
+# still_has FILE: the file of the session has the text of this one
+still_has() {
     cmp live "$1" > out 2>&1 || true
     : > out.wanted
     : > err
@@ -460,15 +460,15 @@ rm -f live
 cp live updated
 told='undorc: NoController daemon\n'
 does 1 '' '' undo
-unaltered updated
+still_has updated
 told='undorc: NoController daemon\n'
 does 1 '' '' undo --to 0
-unaltered updated
+still_has updated
 does 0 'lowered n o\nok\nraised daemon o\nok\n' 'down n eight\ndown o eight\nup o seven\n' undo -c true
 cp live undone
 told='undorc: NoController daemon\n'
 does 1 '' '' redo
-unaltered undone
+still_has undone
 does 0 'lowered daemon o\nok\nraised n o\nok\n' '' redo -x none
 does 0 'lowered n o\nok\nraised daemon o\nok\n' '' undo --to 1 -x none
 
