@@ -141,15 +141,15 @@ fn go_back_on<'x, T: Threads + Wait + Sync, R: Read, W: Write, F: Write>(
     let alloc = execution.rt.alloc();
     match steps_back(alloc, history_in(devices), aim.state) {
         Ok(Some(steps)) if steps == 0 => say_done(b"ok\n", devices),
-        Ok(Some(steps)) => go_controlled(execution, aim, steps, devices),
+        Ok(Some(steps)) => arrive(execution, aim, steps, devices),
         Ok(None) => tell_unkept(alloc, aim.state, devices),
         Err(fault) => tell_untold(alloc, fault, devices),
     }
 }
 
-// Goes back by so many undos, if they move no longrun that no program controls, and returns the
-// status.
-fn go_controlled<'x, T: Threads + Wait + Sync, R: Read, W: Write, F: Write>(
+// Undoes so many times, unless that would move a longrun that no program controls. Tests whether it
+// has led to a state, and returns the status.
+fn arrive<'x, T: Threads + Wait + Sync, R: Read, W: Write, F: Write>(
     execution: &Execution<'x, '_, T>,
     aim: Aim,
     steps: usize,
@@ -167,34 +167,17 @@ fn go_controlled<'x, T: Threads + Wait + Sync, R: Read, W: Write, F: Write>(
 {
     let (alloc, request) = (execution.rt.alloc(), execution.opened.session());
     match uncontrolled_back(alloc, request, history_in(devices), aim.state as usize) {
-        Ok(None) => arrive(execution, aim, steps, devices),
-        Ok(Some(name)) => tell_refused(alloc, SessionFault::NoController(name), devices),
-        Err(_) => fail_on(b"Memory", devices),
+        Ok(None) => {}
+        Ok(Some(name)) => {
+            return tell_refused(alloc, SessionFault::NoController(name), devices);
+        }
+        Err(_) => return fail_on(b"Memory", devices),
     }
-}
-
-// Undoes so many times, tests whether that has led to a state, and returns the status.
-fn arrive<'x, T: Threads + Wait + Sync, R: Read, W: Write, F: Write>(
-    execution: &Execution<'x, '_, T>,
-    aim: Aim,
-    steps: usize,
-    devices: &mut Devices<R, W, F, LiveStore<'x>>,
-) -> u8
-    ensures done { result ≡ 0 → NamesFile execution.now.opened.now.loaded →
-        Leads (store_of devices.old.outputs.keeper) (store_of devices.new.outputs.keeper)
-        (ArrivesBy aim.state steps) }
-    ensures refused { result ≡ 1 → NamesFile execution.now.opened.now.loaded →
-        Leads (store_of devices.old.outputs.keeper) (store_of devices.new.outputs.keeper)
-        (IsRefusedOn false) }
-    ensures stopped { result ≡ 2 → NamesFile execution.now.opened.now.loaded →
-        Leads (store_of devices.old.outputs.keeper) (store_of devices.new.outputs.keeper)
-        (StopsBefore steps) }
-{
     match undo_times(execution, aim.limit, steps, devices) {
         DONE => {}
         code => return code,
     }
-    match steps_back(execution.rt.alloc(), history_in(devices), aim.state) {
+    match steps_back(alloc, history_in(devices), aim.state) {
         Ok(Some(left)) if left == 0 => DONE,
         _ => fail_on(b"Strange", devices),
     }

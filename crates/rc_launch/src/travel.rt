@@ -72,31 +72,12 @@ pub(crate) fn travel<'x, T: Threads + Wait + Sync, R: Read, W: Write, F: Write>(
         Leads (store_of devices.old.outputs.keeper) (store_of devices.new.outputs.keeper)
         (IsRefusedOn way.is_on) }
 {
-    let alloc = execution.rt.alloc();
-    match first_unjoined(alloc, history_in(devices), way.is_on) {
-        Ok(None) => travel_joined(execution, way, devices),
-        Ok(Some(border)) => tell_unjoined(alloc, border, devices),
-        Err(_) => fail_on(b"Memory", devices),
-    }
-}
-
-// Carries out an undo or a redo on whose way all borders are joined, and returns the status.
-fn travel_joined<'x, T: Threads + Wait + Sync, R: Read, W: Write, F: Write>(
-    execution: &Execution<'x, '_, T>,
-    way: Way,
-    devices: &mut Devices<R, W, F, LiveStore<'x>>,
-) -> u8
-    ensures done { result ≡ 0 → NamesFile execution.now.opened.now.loaded →
-        Leads (store_of devices.old.outputs.keeper) (store_of devices.new.outputs.keeper)
-        (Travels way.is_on) }
-    ensures halted { HasHalted result → NamesFile execution.now.opened.now.loaded →
-        Leads (store_of devices.old.outputs.keeper) (store_of devices.new.outputs.keeper)
-        (Halts way.is_on) }
-    ensures refused { result ≡ 1 → NamesFile execution.now.opened.now.loaded →
-        Leads (store_of devices.old.outputs.keeper) (store_of devices.new.outputs.keeper)
-        (IsRefusedOn way.is_on) }
-{
     let (alloc, request) = (execution.rt.alloc(), execution.opened.session());
+    match first_unjoined(alloc, history_in(devices), way.is_on) {
+        Ok(None) => {}
+        Ok(Some(border)) => return tell_unjoined(alloc, border, devices),
+        Err(_) => return fail_on(b"Memory", devices),
+    }
     match uncontrolled_ahead(alloc, request, history_in(devices), way.is_on) {
         Ok(None) => steps(execution, way, devices),
         Ok(Some(name)) => tell_refused(alloc, SessionFault::NoController(name), devices),

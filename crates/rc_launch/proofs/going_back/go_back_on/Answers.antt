@@ -21,7 +21,7 @@ returns-in-Ok-Some-clause-done g c done named was held =
 
 pub returns-in-Ok-Some-2-clause-done : goal.returns-in-Ok-Some-2-clause-done
 returns-in-Ok-Some-2-clause-done g c done named was held =
-    let next = c.go_controlled.ensures.done done named was held in
+    let next = c.arrive.ensures.done done named was held in
     let steps = c.in-Ok-Some.steps in (
       next.0,
       next.1,
@@ -36,7 +36,7 @@ returns-in-Ok-Some-2-clause-done g c done named was held =
 
 pub returns-in-Ok-Some-2-clause-stopped : goal.returns-in-Ok-Some-2-clause-stopped
 returns-in-Ok-Some-2-clause-stopped g c two named was held =
-    let next = c.go_controlled.ensures.stopped two named was held in
+    let next = c.arrive.ensures.stopped two named was held in
     let steps = c.in-Ok-Some.steps in (
       next.0,
       next.1,
