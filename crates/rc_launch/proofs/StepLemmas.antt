@@ -28,7 +28,7 @@ use Rattle.rc_launch.specs.HeldHistory.{Leads, LeadsOn, history_held, history_in
 use Rattle.rc_launch.specs.Loading.{bytes_of}
 use Rattle.rc_launch.specs.Putting.{Announces, Puts, manner_of, stepping}
 use Rattle.rc_launch.specs.TwoSteps.{CarriesBy, IsInForm, IsKeptUpdate, IsTaken, IsToUpdate}
-use Rattle.rc_launch.specs.TwoSteps.{StopsBefore, ending_after}
+use Rattle.rc_launch.specs.TwoSteps.{StopsTakingBack, ending_after}
 use Rattle.rc_launch.specs.declared.live_store.Frame.{Frame}
 use Rattle.rc_launch.specs.declared.live_store.Frame.TheVariants.{Alone, Begins, History}
 use Rattle.rc_launch.specs.declared.live_store.LiveStore.{LiveStore}
@@ -77,7 +77,7 @@ module _ {F : Type 0} (cut : Result Bool F) (Named : Type 0)
   stops_so : (code : ℕ) (ending : Ending) → code ≢ 0 → (HasHalted code → cut ≡ Ok true)
       → (HasHalted code → Named → Leads old new (Halts false))
       → (code ≡ 1 → Named → Leads old new (IsRefusedOn false))
-      → code ≡ status_of ending → Named → Leads old new (StopsBefore ending Goes)
+      → code ≡ status_of ending → Named → Leads old new (StopsTakingBack ending Goes)
   stops_so code Done fault tried halted refused same named was held = absurd (fault same)
   stops_so code Refused fault tried halted refused same named was held =
       let there = refused same named was held in
@@ -86,14 +86,14 @@ module _ {F : Type 0} (cut : Result Bool F) (Named : Type 0)
       let there = halted (inr same) named was held in
       (there.0, there.1, (IfOk-at_ok _ (tried (inr same)) goes was held, there.2))
 
-  pub stops_before : (result : Result Bool ℕ) → IfErr result (λ code. code ≢ 0)
+  pub stops_taking_back : (result : Result Bool ℕ) → IfErr result (λ code. code ≢ 0)
       → IfErr result (λ code. HasHalted code → cut ≡ Ok true)
       → IfErr result (λ code. HasHalted code → Named → Leads old new (Halts false))
       → IfErr result (λ code. code ≡ 1 → Named → Leads old new (IsRefusedOn false))
       → IfErr result (λ code. (ending : Ending) → code ≡ status_of ending → Named
-      → Leads old new (StopsBefore ending Goes))
-  stops_before (Ok taken) fault tried halted refused = tt
-  stops_before (Err code) fault tried halted refused =
+      → Leads old new (StopsTakingBack ending Goes))
+  stops_taking_back (Ok taken) fault tried halted refused = tt
+  stops_taking_back (Err code) fault tried halted refused =
       λ ending. stops_so code ending fault tried halted refused
 
 -- what comes next leads on from there

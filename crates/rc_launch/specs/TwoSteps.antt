@@ -48,8 +48,8 @@ IsLeftBack Refused was is = IsRefusedOn false was is
 IsLeftBack Hindered was is = Halts false was is
 
 -- it came first where this test says so, and was not done, so nothing follows it
-abbrev pub StopsBefore : Ending → (Goes : List ℕ → Bool → Type 0) → (was is : List ℕ) → Type 0
-StopsBefore ending Goes was is = Goes was true × IsLeftBack ending was is
+abbrev pub StopsTakingBack : Ending → (Goes : List ℕ → Bool → Type 0) → (was is : List ℕ) → Type 0
+StopsTakingBack ending Goes was is = Goes was true × IsLeftBack ending was is
 
 -- how a command ends whose last step ends so, if something was taken back before it
 abbrev pub ending_after : (taken : Bool) → Ending → Ending
@@ -109,7 +109,7 @@ CarriesBy Hindered new list bytes is = StopsCarrying new list bytes is
 
 -- an update from where a history stands ended so: what was cut short is taken back first
 abbrev pub UpdatesFrom : Ending → (new : List ℕ) → List Conversion → (was is : List ℕ) → Type 0
-UpdatesFrom ending new list was is = StopsBefore ending (GoesOn false) was is
+UpdatesFrom ending new list was is = StopsTakingBack ending (GoesOn false) was is
     ⊎ ((taken : Bool) × (between : List ℕ) × TakesBack taken was between
     × (last : Ending) × (ending ≡ ending_after taken last) × CarriesBy last new list between is)
 
@@ -152,6 +152,6 @@ RestartsBy ending names bytes is =
 -- a restart from where a history stands ended so: what an undo takes back inside is taken back
 -- first
 abbrev pub RestartsFrom : Ending → (names : List (List ℕ)) → (was is : List ℕ) → Type 0
-RestartsFrom ending names was is = StopsBefore ending GoesBackInside was is
+RestartsFrom ending names was is = StopsTakingBack ending GoesBackInside was is
     ⊎ ((taken : Bool) × (between : List ℕ) × TakesBackInside taken was between
     × (last : Ending) × (ending ≡ ending_after taken last) × RestartsBy last names between is)

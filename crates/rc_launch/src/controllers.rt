@@ -30,13 +30,8 @@ pub(crate) fn uncontrolled_ahead(
     history: &[u8],
     is_on: bool,
 ) -> Result<Option<String>, NoMem> {
-    if !lacks_controller(request) {
+    let Some(numbered) = numbered_without(alloc, request, history)? else {
         return Ok(None);
-    }
-    let numbered = match numbered_of(alloc, history) {
-        Ok(numbered) => numbered,
-        Err(GenerationFault::Memory) => return Err(AllocError),
-        Err(GenerationFault::Untold(_)) => return Ok(None),
     };
     let (at, stop) = (numbered.at, nearest_stop(&numbered, is_on));
     drop(numbered);
@@ -55,24 +50,33 @@ pub(crate) fn uncontrolled_back(
     history: &[u8],
     state: usize,
 ) -> Result<Option<String>, NoMem> {
-    if !lacks_controller(request) {
+    let Some(numbered) = numbered_without(alloc, request, history)? else {
         return Ok(None);
-    }
-    let at = match numbered_of(alloc, history) {
-        Ok(numbered) => {
-            let at = numbered.at;
-            drop(numbered);
-            at
-        }
-        Err(GenerationFault::Memory) => return Err(AllocError),
-        Err(GenerationFault::Untold(_)) => return Ok(None),
     };
     let stretch = Stretch {
         low: state,
-        high: at,
+        high: numbered.at,
         is_on: false,
     };
+    drop(numbered);
     longrun_along(alloc, history, stretch)
+}
+
+// Counts the states of a history, if no controller is named for a command that starts programs.
+// Returns `None` if that is not so, or a text can't be read.
+fn numbered_without(
+    alloc: Global,
+    request: &SessionRequest<'_>,
+    history: &[u8],
+) -> Result<Option<Numbered>, NoMem> {
+    if !lacks_controller(request) {
+        return Ok(None);
+    }
+    match numbered_of(alloc, history) {
+        Ok(numbered) => Ok(Some(numbered)),
+        Err(GenerationFault::Memory) => Err(AllocError),
+        Err(GenerationFault::Untold(_)) => Ok(None),
+    }
 }
 
 // Returns true if the command starts programs and none controls longruns.

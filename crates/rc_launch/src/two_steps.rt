@@ -19,7 +19,8 @@ ghost use Rattle.rc_launch.specs.HeldHistory.{Leads, LeadsOn, history_held};
 ghost use Rattle.rc_launch.specs.Loading.{NamesFile, bytes_of};
 ghost use Rattle.rc_launch.specs.TwoSteps.{CarriesBy, GoesBackInside, HoldsFor, IsKeptUpdate};
 ghost use Rattle.rc_launch.specs.TwoSteps.{IsTaken, IsToUpdate, RestartsBy, RestartsFrom};
-ghost use Rattle.rc_launch.specs.TwoSteps.{StopsBefore, TakesBack, TakesBackInside, UpdatesFrom};
+ghost use Rattle.rc_launch.specs.TwoSteps.{StopsTakingBack, TakesBack, TakesBackInside};
+ghost use Rattle.rc_launch.specs.TwoSteps.{UpdatesFrom};
 
 use crate::borders::{goes_back_inside, goes_on_behind};
 use crate::execution::Execution;
@@ -114,7 +115,7 @@ fn all_taken_back<'x, T: Threads + Wait + Sync, R: Read, W: Write, F: Write>(
     ensures stops { IfErr result (λ code. (ending : Ending) → code ≡ status_of ending →
         NamesFile execution.now.opened.now.loaded →
         Leads (store_of devices.old.outputs.keeper) (store_of devices.new.outputs.keeper)
-        (StopsBefore ending (GoesOn false))) }
+        (StopsTakingBack ending (GoesOn false))) }
 {
     let is_cut = is_cut_in(execution.rt.alloc(), devices);
     taken_back(execution, is_cut, devices)
@@ -137,7 +138,7 @@ pub(crate) fn inside_taken_back<'x, T: Threads + Wait + Sync, R: Read, W: Write,
     ensures stops { IfErr result (λ code. (ending : Ending) → code ≡ status_of ending →
         NamesFile execution.now.opened.now.loaded →
         Leads (store_of devices.old.outputs.keeper) (store_of devices.new.outputs.keeper)
-        (StopsBefore ending GoesBackInside)) }
+        (StopsTakingBack ending GoesBackInside)) }
 {
     let is_cut = is_cut_inside(execution.rt.alloc(), devices);
     taken_back(execution, is_cut, devices)

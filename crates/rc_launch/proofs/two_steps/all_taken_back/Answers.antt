@@ -4,7 +4,7 @@ use Rattle.rc_historytext.specs.Travelling.{GoesOn}
 use Rattle.std.proofs.Common.{false}
 use Rattle.rc_cli.specs.Storing.{store_of}
 use Rattle.rc_launch.specs.Loading.{NamesFile}
-use Rattle.rc_launch.proofs.StepLemmas.{stops_before, taken_by}
+use Rattle.rc_launch.proofs.StepLemmas.{stops_taking_back, taken_by}
 use Rattle.rc_launch.proofs.two_steps.all_taken_back.Goals as goal
 
 pub returns-clause-taken : goal.returns-clause-taken
@@ -16,7 +16,7 @@ returns-clause-taken g c =
 
 pub returns-clause-stops : goal.returns-clause-stops
 returns-clause-stops g c =
-    stops_before c.is_cut_in-is_cut.result (NamesFile c.args.execution.now.opened.now.loaded)
+    stops_taking_back c.is_cut_in-is_cut.result (NamesFile c.args.execution.now.opened.now.loaded)
     (GoesOn false) (store_of c.args.devices.now.outputs.keeper)
     (store_of c.taken_back.new.devices.outputs.keeper) c.is_cut_in-is_cut.ensures.goes
     c.taken_back.result c.taken_back.ensures.fault c.taken_back.ensures.tried

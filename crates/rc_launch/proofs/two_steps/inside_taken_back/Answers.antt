@@ -1,7 +1,7 @@
 use Rattle.rc_launch.specs.TwoSteps.{GoesBackInside}
 use Rattle.rc_cli.specs.Storing.{store_of}
 use Rattle.rc_launch.specs.Loading.{NamesFile}
-use Rattle.rc_launch.proofs.StepLemmas.{stops_before, taken_by}
+use Rattle.rc_launch.proofs.StepLemmas.{stops_taking_back, taken_by}
 use Rattle.rc_launch.proofs.two_steps.inside_taken_back.Goals as goal
 
 pub returns-clause-taken : goal.returns-clause-taken
@@ -13,8 +13,9 @@ returns-clause-taken g c =
 
 pub returns-clause-stops : goal.returns-clause-stops
 returns-clause-stops g c =
-    stops_before c.is_cut_inside-is_cut.result (NamesFile c.args.execution.now.opened.now.loaded)
-    GoesBackInside (store_of c.args.devices.now.outputs.keeper)
+    stops_taking_back c.is_cut_inside-is_cut.result
+    (NamesFile c.args.execution.now.opened.now.loaded) GoesBackInside
+    (store_of c.args.devices.now.outputs.keeper)
     (store_of c.taken_back.new.devices.outputs.keeper) c.is_cut_inside-is_cut.ensures
     c.taken_back.result c.taken_back.ensures.fault c.taken_back.ensures.tried
     c.taken_back.ensures.halted c.taken_back.ensures.refused

@@ -3,7 +3,7 @@ use Rattle.std.specs.Prelude.{string_bytes}
 use Rattle.rc_serve.specs.declared.ending.Ending.{Ending}
 use Rattle.rc_cli.specs.Storing.{store_of}
 use Rattle.rc_launch.specs.Loading.{NamesFile}
-use Rattle.rc_launch.specs.TwoSteps.{GoesBackInside, RestartsBy, StopsBefore, TakesBackInside}
+use Rattle.rc_launch.specs.TwoSteps.{GoesBackInside, RestartsBy, StopsTakingBack, TakesBackInside}
 use Rattle.rc_launch.specs.TwoSteps.{ending_after}
 use Rattle.rc_launch.proofs.StepLemmas.{behind_code, ends_behind, leads_stopped}
 use Rattle.rc_launch.proofs.two_steps.restart.Goals as goal
@@ -14,7 +14,7 @@ returns-in-Ok-true g c = record {
       let last = behind_code _ _ ending c.hindered.ensures same in
       ends_behind _ (NamesFile c.args.execution.now.opened.now.loaded) TakesBackInside
       (λ (e : Ending). RestartsBy e (map string_bytes c.args.request.now.names.items))
-      (StopsBefore ending GoesBackInside) ending last.0
+      (StopsTakingBack ending GoesBackInside) ending last.0
       (store_of c.args.devices.now.outputs.keeper)
       (store_of c.inside_taken_back.new.devices.outputs.keeper)
       (store_of c.serve_restart.new.devices.outputs.keeper) c.in-Ok-true.ensures.taken named
@@ -27,7 +27,7 @@ returns-in-Ok-false g c = record {
   ended = λ ending same named.
       ends_behind _ (NamesFile c.args.execution.now.opened.now.loaded) TakesBackInside
       (λ (e : Ending). RestartsBy e (map string_bytes c.args.request.now.names.items))
-      (StopsBefore ending GoesBackInside) ending ending
+      (StopsTakingBack ending GoesBackInside) ending ending
       (store_of c.args.devices.now.outputs.keeper)
       (store_of c.inside_taken_back.new.devices.outputs.keeper)
       (store_of c.serve_restart-in-Ok-false.new.devices.outputs.keeper) c.in-Ok-false.ensures.taken

@@ -6,7 +6,7 @@ use Rattle.rc_update.specs.Conversions.{conversions_of}
 use Rattle.rc_launch.specs.Anew.{UpdatesAnew}
 use Rattle.rc_launch.specs.Frames.{IsToBegin}
 use Rattle.rc_launch.specs.Loading.{NamesFile, bytes_of}
-use Rattle.rc_launch.specs.TwoSteps.{CarriesBy, StopsBefore, TakesBack, ending_after}
+use Rattle.rc_launch.specs.TwoSteps.{CarriesBy, StopsTakingBack, TakesBack, ending_after}
 use Rattle.rc_launch.proofs.StepLemmas.{begins_bare, behind_code, ends_behind, leads_stopped}
 use Rattle.rc_launch.proofs.StepLemmas.{not_stopped, not_taken}
 use Rattle.rc_launch.specs.declared.live_store.LiveStore.{LiveStore}
@@ -19,7 +19,7 @@ returns-in-Ok-true-clause-ended g c ending same named kept =
     ends_behind _ (NamesFile loaded) TakesBack
     (λ (e : Ending). CarriesBy e (bytes_of loaded.new)
     (conversions_of c.args.request.now.conversions.items))
-    (StopsBefore ending (GoesOn false)) ending last.0
+    (StopsTakingBack ending (GoesOn false)) ending last.0
     (store_of c.args.devices.now.outputs.keeper)
     (store_of c.all_taken_back.new.devices.outputs.keeper)
     (store_of c.carry_over.new.devices.outputs.keeper) c.in-Ok-true.ensures.taken named
@@ -32,7 +32,7 @@ returns-in-Ok-false-clause-ended g c ending same named kept =
     ends_behind _ (NamesFile loaded) TakesBack
     (λ (e : Ending). CarriesBy e (bytes_of loaded.new)
     (conversions_of c.args.request.now.conversions.items))
-    (StopsBefore ending (GoesOn false)) ending ending
+    (StopsTakingBack ending (GoesOn false)) ending ending
     (store_of c.args.devices.now.outputs.keeper)
     (store_of c.all_taken_back.new.devices.outputs.keeper)
     (store_of c.carry_over-in-Ok-false.new.devices.outputs.keeper) c.in-Ok-false.ensures.taken
